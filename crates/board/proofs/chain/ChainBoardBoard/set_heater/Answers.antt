@@ -1,0 +1,18 @@
+use borrow.Author.Needs.{needs}
+use mathlib.Core.Path.{ap, _∙_}
+use Rattle.board.specs.Chain.{word-outputs}
+use Rattle.board.specs.declared.shift_register.ShiftRegister.{ShiftRegister}
+use Rattle.board.proofs.Past.{heater-past}
+use Rattle.board.proofs.Words.{heater-word, word-whole}
+use Rattle.board.proofs.chain.ChainBoardBoard.set_heater.Needs as need
+
+pub returns-then-which-ge2 : need.returns-then-which-ge2
+returns-then-which-ge2 c =
+    let w = c .args .self .now .register .latched in
+    record { answer = search needs; effect = record { outputs = heater-past (word-outputs w) (word-whole w) (c .args .which) (c .args .on) (c .if-which-ge2 .taken) }; refused = search needs }
+
+pub returns : need.returns
+returns c =
+    let across = ap (λ (r : ShiftRegister). word-outputs (r .latched)) (c .send .ensures) in
+    let e = heater-word (c .args .self .now .register .latched) (c .args .which) (c .args .on) (c .if-which-ge2 .left) in
+    record { answer = search needs; effect = record { outputs = cc }; refused = search needs }
