@@ -1,0 +1,4 @@
+pub mod Readings
+pub mod Octets
+pub mod Parts
+pub mod RoundTrip
