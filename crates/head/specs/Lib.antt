@@ -1,0 +1,10 @@
+pub mod Parameters
+pub mod Checks
+pub mod Faults
+pub mod Rolls
+pub mod Requests
+pub mod Verdicts
+pub mod State
+pub mod Effects
+pub mod Events
+pub mod Logs
