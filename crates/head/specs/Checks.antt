@@ -71,6 +71,36 @@ masked ps c = bit (par ps 20) c
 abbrev pub reached : List ℕ → ℕ → ℕ → Bool
 reached ps c n = not (masked ps c) && leb (par ps (7 + c)) n
 
+-- the rate at raw count n, where the count before was b: what it rose by modulo 16,777,216, at most 65,535
+unfoldable pub rate : ℕ → ℕ → ℕ
+rate b n = min 65535 ((n + 16777216 - b) % 16777216)
+
+-- the rate is 0 where there is no count before
+abbrev pub rateAt : Option ℕ → ℕ → ℕ
+rateAt None n = 0
+rateAt (Some b) n = rate b n
+
+-- check 3 trips at a rate above 256 times parameter 10
+abbrev pub rateTrips : List ℕ → ℕ → Bool
+rateTrips ps r = not (masked ps 3) && ltb (256 * par ps 10) r
+
+-- sensor i is above its limit, and bit i of parameter 19 is clear
+abbrev pub sensorOut : List ℕ → List ℕ → ℕ → Bool
+sensorOut ps ts i = ltb (par ps (11 + i)) (getD ts i 0) && not (bit (par ps 19) i)
+
+-- the test holds at some number below n
+abbrev pub someBelow : (ℕ → Bool) → ℕ → Bool
+someBelow test zero = false
+someBelow test (suc n) = test n || someBelow test n
+
+-- one of the eight sensors is too warm
+unfoldable pub warm : List ℕ → List ℕ → Bool
+warm ps ts = someBelow (sensorOut ps ts) 8
+
+-- check 4 trips at these temperatures
+abbrev pub sensorsTrip : List ℕ → List ℕ → Bool
+sensorsTrip ps ts = not (masked ps 4) && warm ps ts
+
 abbrev tests : List Bool → Check → Option Check → Option Check
 tests ts c rest = cond (getD ts (numberOf c) false) (Some c) rest
 

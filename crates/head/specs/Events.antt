@@ -1,5 +1,5 @@
 -- The rules of the events: what state each leaves, and what it is answered.
-use Prim.Native.Nat.{ℕ, zero, suc, _+_, _-_, _*_, _%_, max}
+use Prim.Native.Nat.{ℕ, zero, suc, _+_, _-_, _*_, _%_, _^_, max}
 use mathlib.Core.Bool.{Bool, true, false, cond, _&&_, _||_, not}
 use mathlib.Core.List.{List, [], _∷_}
 use lib.Dec.{eqb, ltb, leb}
@@ -15,7 +15,7 @@ use Rattle.telecommand.specs.Commands.{Telecommand}
 use Rattle.telecommand.specs.Links.{blank, reads}
 use Rattle.telecommand.specs.declared.fault.ReadFault.{ReadFault}
 use Rattle.head.specs.Parameters.{restoredAll}
-use Rattle.head.specs.Checks.{out, counted, reached, lowest}
+use Rattle.head.specs.Checks.{out, counted, reached, rateAt, rateTrips, sensorsTrip, lowest}
 use Rattle.head.specs.Requests.{requestOf}
 use Rattle.head.specs.Verdicts.{Answer, judged}
 use Rattle.head.specs.State.{State, st, waiting-is, meters-are}
@@ -27,8 +27,9 @@ use Rattle.head.specs.declared.Meters.{Meters}
 use Rattle.head.specs.declared.Core.{Core}
 use Rattle.head.specs.declared.checks.Check.{Check}
 use Rattle.head.specs.declared.checks.Sample.{Sample}
+use Rattle.head.specs.declared.checks.Mark.{Mark}
 use Rattle.head.specs.declared.request.Request.{Request}
-use Rattle.head.specs.declared.fault.Fault.the-variants.{BothEmpty, Unread}
+use Rattle.head.specs.declared.fault.Fault.the-variants.{BothEmpty, Unread, RawCount}
 use Rattle.head.specs.declared.safe.Turn.the-variants.{Trip}
 use Rattle.head.specs.declared.tick.Due.{Due}
 
@@ -141,3 +142,35 @@ sampleTrip x s = lowest (countTrips (s .core .parameters) (countsAfter x s))
 -- the state after a sample
 abbrev pub sampled : Sample → State → State
 sampled x s = tripped (sampleTrip x s) (counts-are (countsAfter x s) s)
+
+-- ---- second marks
+
+-- a raw count of more than 24 bits
+abbrev pub tooLarge : Mark → Bool
+tooLarge x = ltb 16777215 (x .raw)
+
+abbrev pub secondAnswer : Mark → Answer
+secondAnswer x = refuse (tooLarge x) RawCount (Ok tt)
+
+-- time goes up by one and wraps, the tick number is 0, the safety timer lessens, the raw count is the latest
+abbrev pub clocked : Mark → State → State
+clocked x s = meters-are (record { time = (s .core .meters .time + 1) % 2 ^ 32; tick = 0; timer = s .core .meters .timer - 1; counts = s .core .meters .counts; last = Some (x .raw) }) s
+
+-- the rate at a second mark
+abbrev pub rateThen : Mark → Core → ℕ
+rateThen x c = rateAt (c .meters .last) (x .raw)
+
+-- which of the five checks a second mark trips
+abbrev pub markTrips : Mark → Core → List Bool
+markTrips x c = false ∷ false ∷ false ∷ rateTrips (c .parameters) (rateThen x c) ∷ sensorsTrip (c .parameters) (x .temperatures) ∷ []
+
+abbrev pub markTrip : Mark → Core → Option Check
+markTrip x c = lowest (markTrips x c)
+
+-- the state after an accepted second mark
+abbrev pub marked : Mark → State → State
+marked x s = tripped (markTrip x (s .core)) (clocked x s)
+
+-- the state after a second mark
+abbrev pub seconded : Mark → State → State
+seconded x s = cond (tooLarge x) s (marked x s)

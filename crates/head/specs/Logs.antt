@@ -12,18 +12,19 @@ use Rattle.telecommand.specs.Commands.{Telecommand}
 use Rattle.telecommand.specs.Links.{reads, setAside}
 use Rattle.telecommand.specs.Faults.{readReport}
 use Rattle.telecommand.specs.declared.fault.ReadFault.{ReadFault}
-use Rattle.head.specs.Rolls.{Log, added, entry, emptied}
+use Rattle.head.specs.Rolls.{Roll, Log, added, entry, emptied}
 use Rattle.head.specs.Parameters.{allowed}
 use Rattle.head.specs.Faults.{reportOf, noteOf}
 use Rattle.head.specs.Requests.{requestOf, orderOp}
 use Rattle.head.specs.Verdicts.{Answer, judged}
 use Rattle.head.specs.State.{State}
 use Rattle.head.specs.Effects.{isEntry}
-use Rattle.head.specs.Events.{bothEmpty, sampleTrip, notOverridden}
+use Rattle.head.specs.Events.{bothEmpty, sampleTrip, notOverridden, tooLarge, clocked, rateThen, markTrip}
 use Rattle.head.specs.declared.Waiting.{Waiting}
 use Rattle.head.specs.declared.Core.{Core}
 use Rattle.head.specs.declared.checks.Check.{Check}
 use Rattle.head.specs.declared.checks.Sample.{Sample}
+use Rattle.head.specs.declared.checks.Mark.{Mark}
 use Rattle.head.specs.declared.request.Request.{Request}
 use Rattle.head.specs.declared.request.Request.the-variants.{Nothing, Safe, Checkout, Confirm, CloseDoor, SuppliesOff, Heater, Critical}
 use Rattle.head.specs.declared.fault.Fault.{Fault}
@@ -114,3 +115,12 @@ tripLog (Some check) c l = cond (notOverridden (c .parameters) && isEntry (c .mo
 
 abbrev pub sampleLog : Sample → State → Log → Log
 sampleLog x s l = tripLog (sampleTrip x s) (s .core) l
+
+-- ---- second marks: a raw count that is too large is logged; a trip's note bears the new time
+
+abbrev pub secondLog : Mark → State → Log → Log
+secondLog x s l = cond (tooLarge x) (refused (s .core .meters .time) RawCount l) (tripLog (markTrip x (s .core)) (clocked x s .core) l)
+
+-- the rate joins the rates
+abbrev pub secondRates : Mark → Core → Roll ℕ → Roll ℕ
+secondRates x c l = cond (tooLarge x) l (added (rateThen x c) l)

@@ -1,8 +1,9 @@
 //! The checks on what a sample brings, and the checks by their numbers. Nothing else opens this arithmetic.
 ghost use mathlib.Core.Path.{_≡_};
 ghost use Prim.Native.Nat.{_+_, _<_, max};
-ghost use Rattle.head.specs.Checks.{bit, numberOf, expected, plateOut, stripOut, anodeOut, counted as countedBy, reached, lowest as lowestOf};
+ghost use Rattle.head.specs.Checks.{bit, numberOf, expected, plateOut, stripOut, anodeOut, counted as countedBy, reached, rateAt, rate as rateOf, rateTrips, warm, sensorsTrip, lowest as lowestOf};
 use super::parameters::CHECK_MASK;
+use super::parameters::COUNT_RATE;
 use super::parameters::LARGEST_ANODE;
 use super::parameters::LARGEST_SET_POINT;
 use super::parameters::LARGEST_STRIP;
@@ -10,6 +11,8 @@ use super::parameters::LEAST_ANODE;
 use super::parameters::NOMINAL_LEVEL;
 use super::parameters::PLATE_TOLERANCE;
 use super::parameters::READ_BACK_FACTOR;
+use super::parameters::SENSOR_LIMITS;
+use super::parameters::SENSOR_MASK;
 
 /// The five checks, in the order of their numbers.
 #[derive(Clone, Copy)]
@@ -42,6 +45,13 @@ pub struct Sample {
     pub plate: [u8; 2],
     pub strip: [u8; 2],
     pub anode: [u8; 2],
+}
+
+/// What a second mark brings: the raw count, and the temperatures of the eight sensors.
+#[derive(Clone, Copy)]
+pub struct Mark {
+    pub raw: u32,
+    pub temperatures: [u8; 8],
 }
 
 // Bit `i` of `mask`.
@@ -97,6 +107,50 @@ pub(super) fn trips(parameters: &[u8; 25], c: usize, count: u8) -> bool
     ensures { λ r. ⌜ r ≡ reached (now (parameters .entry)) c count ⌝ }
 {
     !bit_of(parameters[CHECK_MASK], c) && count >= parameters[7 + c]
+}
+
+// The count rate, from the raw count before, if any, and this one.
+pub(super) fn rate(before: Option<u32>, raw: u32) -> u16
+    ensures { λ r. ⌜ r ≡ rateAt before raw ⌝ }
+{
+    match before {
+        Some(count) => rate_between(count, raw),
+        None => 0,
+    }
+}
+
+// What the raw count rose by, modulo 16,777,216, at most 65,535.
+fn rate_between(before: u32, raw: u32) -> u16
+    ensures { λ r. ⌜ r ≡ rateOf before raw ⌝ }
+{
+    let rise = (u64::from(raw) + 16_777_216).saturating_sub(u64::from(before)) % 16_777_216;
+    rise.min(65_535) as u16
+}
+
+// Whether check 3 trips at a rate.
+pub(super) fn rate_trips(parameters: &[u8; 25], rate: u16) -> bool
+    ensures { λ r. ⌜ r ≡ rateTrips (now (parameters .entry)) rate ⌝ }
+{
+    !bit_of(parameters[CHECK_MASK], 3) && rate > 256 * u16::from(parameters[COUNT_RATE])
+}
+
+// Whether any sensor that is not masked is above its limit.
+fn any_warm(parameters: &[u8; 25], temperatures: [u8; 8]) -> bool
+    ensures { λ r. ⌜ r ≡ warm (now (parameters .entry)) temperatures ⌝ }
+{
+    for (i, temperature) in temperatures.iter().enumerate() {
+        if *temperature > parameters[SENSOR_LIMITS + i] && !bit_of(parameters[SENSOR_MASK], i) {
+            return true;
+        }
+    }
+    false
+}
+
+// Whether check 4 trips at these temperatures.
+pub(super) fn sensors_trip(parameters: &[u8; 25], temperatures: [u8; 8]) -> bool
+    ensures { λ r. ⌜ r ≡ sensorsTrip (now (parameters .entry)) temperatures ⌝ }
+{
+    !bit_of(parameters[CHECK_MASK], 4) && any_warm(parameters, temperatures)
 }
 
 // The lowest of the five checks that trips, where `tripped` says it of each.

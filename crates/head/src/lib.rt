@@ -10,9 +10,11 @@ mod records;
 mod request;
 mod safe;
 mod sample;
+mod second;
 mod tick;
 
 pub use checks::Check;
+pub use checks::Mark;
 pub use checks::Sample;
 pub use fault::Fault;
 pub use fault::FaultDebug;

@@ -17,6 +17,12 @@ pub const LARGEST_ANODE: usize = 5;
 
 pub const READ_BACK_FACTOR: usize = 6;
 
+pub const COUNT_RATE: usize = 10;
+
+pub const SENSOR_LIMITS: usize = 11;
+
+pub const SENSOR_MASK: usize = 19;
+
 pub const CHECK_MASK: usize = 20;
 
 pub const OVERRIDE: usize = 21;
