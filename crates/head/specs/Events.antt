@@ -79,17 +79,17 @@ nextTick me = record { time = me .time; tick = (me .tick + 1) % 200; timer = me 
 -- the waiting command has one tick less, and is lost with its last
 abbrev pub lessWaiting : Option Waiting → Option Waiting
 lessWaiting None = None
-lessWaiting (Some w) = cond (leb (w .left) 1) None (Some (record { order = w .order; left = w .left - 1 }))
+lessWaiting (Some w) = cond (ltb 1 (w .left)) (Some (record { order = w .order; left = w .left - 1 })) None
 
 -- the drive has one tick less, and ends with its last
 abbrev pub lessDrive : Option Drive → Option Drive
 lessDrive None = None
-lessDrive (Some d) = cond (leb (d .left) 1) None (Some (record { line = d .line; left = d .left - 1 }))
+lessDrive (Some d) = cond (ltb 1 (d .left)) (Some (record { line = d .line; left = d .left - 1 })) None
 
 -- the line of a drive that ends goes off
 abbrev pub lessOut : Option Drive → Outputs → Outputs
 lessOut None o = o
-lessOut (Some d) o = cond (leb (d .left) 1) (with-line o (d .line) Off) o
+lessOut (Some d) o = cond (ltb 1 (d .left)) o (with-line o (d .line) Off)
 
 -- the state after a tick
 abbrev pub ticked : State → State

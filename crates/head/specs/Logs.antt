@@ -2,7 +2,7 @@
 use Prim.Native.Nat.{ℕ, zero, suc}
 use mathlib.Core.Bool.{Bool, true, false, cond, _&&_}
 use mathlib.Core.List.{List, [], _∷_}
-use lib.Dec.{leb}
+use lib.Dec.{ltb}
 use lib.ListN.{getD}
 use Rattle.std.specs.declared.option.Option.{Option}
 use Rattle.std.specs.declared.option.Option.the-variants.{None, Some}
@@ -102,7 +102,7 @@ frameLog p r c l = cond (bothEmpty p r) l (heardLog (reads p r) c (asideLog (c .
 
 abbrev pub lateLog : ℕ → Option Waiting → Log → Log
 lateLog time None l = l
-lateLog time (Some w) l = cond (leb (w .left) 1) (noted time (Late (orderOp (w .order))) l) l
+lateLog time (Some w) l = cond (ltb 1 (w .left)) l (noted time (Late (orderOp (w .order))) l)
 
 abbrev pub tickLog : Core → Log → Log
 tickLog c l = lateLog (c .meters .time) (c .waiting) l

@@ -26,6 +26,8 @@ pub use parameters::PARAMETERS;
 pub use parameters::Range;
 pub use parameters::defaults;
 pub use tick::Due;
+pub use tick::DueDebug;
+pub use tick::DuePartialEq;
 
 #[derive(Clone, Copy, PartialEq, Eq, Debug)]
 pub enum Mode {

@@ -91,6 +91,13 @@ impl<B> Head<B> {
         self.core.mode
     }
 
+    /// The 25 parameters in force.
+    pub fn parameters(&self) -> [u8; 25]
+        ensures { λ r. ⌜ r ≡ now (self .entry) .core .parameters ⌝ }
+    {
+        self.core.parameters
+    }
+
     /// The board, to look at.
     pub fn board(&self) -> &B
         ensures { λ r. ⌜ now r ≡ now (self .entry) .board ⌝ }

@@ -1,0 +1,9 @@
+//! Runs of a head, event by event, and what holds over every run: the interlocks.
+mod run;
+mod step;
+
+pub use run::bring;
+pub use run::operate;
+pub use step::Event;
+pub use step::Shown;
+pub use step::Step;
