@@ -1,0 +1,13 @@
+pub mod Runs
+pub mod Agos
+pub mod Counts
+pub mod Orders
+pub mod Parts
+pub mod Boards
+pub mod Deeds
+pub mod Asks
+pub mod Comes
+pub mod Frames
+pub mod Samples
+pub mod Marks
+pub mod Whole

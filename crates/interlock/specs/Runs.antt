@@ -1,6 +1,6 @@
 -- A run by the rules: what each event is answered, and where it leaves head, board, log and rates.
 use mathlib.Core.Path.{_≡_}
-use mathlib.Core.List.{List}
+use mathlib.Core.List.{List, []}
 use Prim.Native.Nat.{ℕ, zero, suc, _+_, _%_, _<_}
 use lib.ListN.{length, getD}
 use Rattle.std.specs.declared.option.Option.{Option}
@@ -14,7 +14,8 @@ use Rattle.head.specs.Rolls.{Roll, Log}
 use Rattle.head.specs.Events.{frameAnswer, framed, ticked, dueAt, sampled, secondAnswer, seconded}
 use Rattle.head.specs.Logs.{frameLog, tickLog, sampleLog, secondLog, secondRates}
 use Rattle.head.specs.declared.tick.Due.{Due}
-use Rattle.interlock.specs.Events.{Event, tick, frame, sample, mark, eventOf, unseen, notDue, reading}
+use Rattle.head.specs.declared.Mode.the-variants.{Safe}
+use Rattle.interlock.specs.Events.{Event, tick, frame, sample, mark, eventOf, notDue, reading}
 use Rattle.interlock.specs.declared.step.Event.the-variants.{Tick}
 use Rattle.interlock.specs.declared.step.Shown.{Shown}
 use Rattle.interlock.specs.declared.step.Step.{Step}
@@ -63,9 +64,13 @@ ratesAfter s (frame p r) l = l
 ratesAfter s (sample x) l = l
 ratesAfter s (mark x) l = secondRates x (s .core) l
 
--- step i of a list, a tick past its end
+-- what stands past the end of a list
+abbrev pub absent : Step
+absent = record { event = Tick; shown = record { fault = None; due = notDue; mode = Safe; parameters = []; supplies = []; heaters = []; lines = [] } }
+
+-- step i of a list
 abbrev pub stepAt : List Step → ℕ → Step
-stepAt steps i = getD steps i (record { event = Tick; shown = unseen })
+stepAt steps i = getD steps i absent
 
 abbrev pub eventAt : List Step → ℕ → Event
 eventAt steps i = eventOf (stepAt steps i .event)

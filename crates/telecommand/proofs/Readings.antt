@@ -6,8 +6,9 @@ use mathlib.Core.List.{List, []}
 use native.Mathlib.Omega.{arith}
 use lib.Dec.{leb, eqb}
 use lib.ListN.{length, getD, take, drop}
-use borrow.Author.Tests.{eq-eqb, leb-true}
-use Rattle.std.specs.declared.option.Option.the-variants.{Some}
+use borrow.Author.Tests.{eq-eqb, eqb-true, leb-true}
+use Rattle.std.specs.declared.option.Option.{Option}
+use Rattle.std.specs.declared.option.Option.the-variants.{Some, None}
 use Rattle.std.specs.declared.result.Result.{Result}
 use Rattle.std.specs.declared.result.Result.the-variants.{Ok, Err}
 use Rattle.std.proofs.shelf.Lists.{nil-from-length, take-rest, length-drop}
@@ -15,11 +16,11 @@ use Rattle.std.proofs.shelf.Tests.{and-parts, not-false}
 use Rattle.codes.specs.Reports.{refuse}
 use Rattle.codes.proofs.Refusals.{passed}
 use Rattle.telecommand.specs.Packet.{word, sized, fieldOf}
-use Rattle.telecommand.specs.Commands.{Telecommand, Legal, kindIn, commands, commandOf}
-use Rattle.telecommand.specs.Links.{prefer, blank, linkField, chosen}
+use Rattle.telecommand.specs.Commands.{Telecommand, Legal, WordsFit, ofKind, kindIn, commands, commandOf}
+use Rattle.telecommand.specs.Links.{prefer, blank, linkField, chosen, commandIn, reads}
 use Rattle.telecommand.specs.declared.kinds.Kind.{Kind}
 use Rattle.telecommand.specs.declared.fault.ReadFault.{ReadFault}
-use Rattle.telecommand.specs.declared.fault.ReadFault.the-variants.{Length, Header}
+use Rattle.telecommand.specs.declared.fault.ReadFault.the-variants.{Length, Header, WordCount}
 
 abbrev made : ℕ → List ℕ → Telecommand
 made op ws = record { opcode = op; words = ws }
@@ -72,3 +73,21 @@ prefer-long none (Err x) (Err y) d f g e = let z : _≡_ {A = ℕ} 0 1 = cc in a
 
 pub chosen-long : (p r d : List ℕ) → Ok d ≡ chosen p r → 2 ≤ length d
 chosen-long p r d e = prefer-long (blank p) (linkField p) (linkField r) d (field-long 0x11 0x01 p) (field-long 0x11 0x01 r) e
+
+-- what is read has as many words as its command
+
+of-kind-legal : (k : Option Kind) (op : ℕ) (ws : List ℕ) (t : Telecommand) → ofKind k op ws ≡ Ok t → WordsFit k ws × (made op ws ≡ t)
+of-kind-legal None op ws t e = let z : _≡_ {A = ℕ} 0 1 = cc in absurd (omega arith)
+of-kind-legal (Some k) op ws t e =
+    let p = passed (not (eqb (length ws) (2 * k .words))) (WordCount op) (Ok (made op ws)) t e in
+    let f = p .1 in
+    (eqb-true (length ws) (2 * k .words) (not-false (eqb (length ws) (2 * k .words)) (p .0)), cc)
+
+command-legal : (c : Result (List ℕ) ReadFault) (t : Telecommand) → commandIn c ≡ Ok t → Legal (t .opcode) (t .words)
+command-legal (Ok d) t e =
+    let k = of-kind-legal (kindIn commands (word d 0)) (word d 0) (drop 2 d) t e in
+    subst (λ (u : Telecommand). Legal (u .opcode) (u .words)) (k .1) (k .0)
+command-legal (Err f) t e = let z : _≡_ {A = ℕ} 0 1 = cc in absurd (omega arith)
+
+pub reads-legal : (p r : List ℕ) (t : Telecommand) → reads p r ≡ Ok t → Legal (t .opcode) (t .words)
+reads-legal p r t e = command-legal (chosen p r) t e

@@ -1,0 +1,417 @@
+-- The invariant of a run, and the interlocks that it gives.
+use mathlib.Core.Path.{_≡_, refl, sym, ap, subst, _∙_}
+use mathlib.Core.Bool.{Bool, true, false, cond, _&&_}
+use mathlib.Core.List.{List, [], _∷_}
+use mathlib.Core.Logic.{_⊎_, inl, inr, ⊎-elim, _↔_}
+use Prim.Native.Nat.{ℕ, zero, suc, _+_, _-_, _<_, _≤_}
+use native.Mathlib.Omega.{arith}
+use lib.ListN.{length, getD}
+use lib.Dec.{eqb, ltb, leb}
+use borrow.Author.Tests.{eqb-true, eqb-false, eq-eqb, ne-eqb, both-ways, leb-true, ltb-true}
+use Rattle.std.specs.declared.option.Option.{Option}
+use Rattle.std.specs.declared.option.Option.the-variants.{None, Some}
+use Rattle.std.specs.declared.result.Result.the-variants.{Ok, Err}
+use Rattle.std.proofs.shelf.Counted.{getD-map-counting, length-map-counting}
+use Rattle.board.specs.Lines.{isOn}
+use Rattle.board.specs.Meaning.{Outputs, Whole, dark}
+use Rattle.board.specs.declared.line_state.LineState.the-variants.{Off}
+use Rattle.head.specs.Parameters.{rangeAt, restored, restoredAll}
+use Rattle.head.specs.Requests.{orderOp}
+use Rattle.head.specs.Verdicts.{orderFirst}
+use Rattle.head.specs.State.{State, st, mode-is, meters-are}
+use Rattle.head.specs.Effects.{darkened, ended, endedFrom, shutFrom, secured}
+use Rattle.head.specs.Events.{poweredOn, tooLarge, secondAnswer, clocked, countsAfter, counts-are, sampleTrip, markTrip}
+use Rattle.head.specs.declared.Mode.{Mode}
+use Rattle.head.specs.declared.Mode.the-variants.{Safe, Checkout}
+use Rattle.head.specs.declared.Order.{Order}
+use Rattle.head.specs.declared.Order.the-variants.{SetParameter, OpenDoor, SetSupply, FireRelease}
+use Rattle.head.specs.declared.Drive.{Drive}
+use Rattle.head.specs.declared.Meters.{Meters}
+use Rattle.head.specs.declared.checks.Check.{Check}
+use Rattle.head.specs.declared.checks.Mark.{Mark}
+use Rattle.head.specs.declared.fault.Fault.the-variants.{RawCount}
+use Rattle.interlock.specs.Events.{Event, tick, frame, sample, mark, suppliesRead, heatersRead, linesRead, reading, notDue}
+use Rattle.interlock.specs.Runs.{faultOf, next, answerOf, shownOf}
+use Rattle.interlock.specs.History.{Came, powered, brought, Did, Past, Ago, Always, Out, Brings, Accepted, IsFrame, Counts, InCheckout, EntersSafe, Sets, Starts, fires, opens, closes, shuts, Runs, PowersOn, ParameterIs, SwitchedOn, lastShown, supplyReads, heaterReads, lineReads, parameterReads}
+use Rattle.interlock.specs.Promises.{Confirms, Kept, begins, came-of, Follows, begun, gone, Stands}
+use Rattle.interlock.specs.declared.step.Shown.{Shown}
+use Rattle.interlock.proofs.Agos.{ago-none, ago-now, ago-cases, ago-map, always-none, always-more}
+use Rattle.interlock.proofs.Orders.{orderWords, ConfirmedOrder}
+use Rattle.interlock.proofs.Parts.{ModeIs, DriveIs, ran-on, param-set, given-one}
+use Rattle.interlock.proofs.Boards.{lit, lineOn, SafeIs, whole-line, whole-supply, whole-heater, tick-whole}
+use Rattle.interlock.proofs.Deeds.{ReadIs, Now, Deed, rests, heats, offs, checks, passes, acting, closing, enters, apply, now-deed}
+use Rattle.interlock.proofs.Comes.{did, told, Comes, all-below, unpowered}
+use Rattle.interlock.proofs.Frames.{Rightly, frame-comes, frame-right}
+use Rattle.interlock.proofs.Counts.{count-kept, count-none}
+use Rattle.interlock.proofs.Samples.{CountsAre, sample-counts, sample-comes, tripMeters, metersAfter}
+use Rattle.interlock.proofs.Marks.{LastIs, last-kept, last-set, mark-comes}
+
+pub record Sound (h : Past) (s : State) : Type 0 where
+  pub now : Now h s
+  pub counts : CountsAre (s .core .meters .counts) h
+  pub last : LastIs (s .core .meters .last) h
+  pub whole : Whole (s .out)
+  pub kept : Always Kept h
+
+-- ---- what the state gives
+
+line-on : (dr : Option Drive) (h : Past) (l : ℕ) (b : Bool) → b ≡ lit dr l → DriveIs dr h → (b ≡ true) ↔ ((n : ℕ) × Runs l n h)
+line-on None h l b e k = (λ t. absurd (both-ways b e t), λ r. absurd (k l (r .0) (r .1)))
+line-on (Some d) h l b e k = (
+  λ t.
+      let same : l ≡ d .line = eqb-true _ _ (sym e ∙ t) in
+      (k .period, subst (λ x. Runs x (k .period) h) (sym same) (ago-map (λ t p x. (x .0, omega (arith, x .1, k .more))) (λ p q. q) (k .run))),
+  λ r. e ∙ eq-eqb l (d .line) (k .only l (r .0) (r .1) .0),
+)
+
+one-drive : (dr : Option Drive) (h : Past) → DriveIs dr h → (l m j k : ℕ) (r : Runs l m h) (q : Runs j k h) → (l ≡ j) × (m ≡ k) × (r .back ≡ q .back)
+one-drive None h is l m j k r q = absurd (is l m r)
+one-drive (Some d) h is l m j k r q =
+    let x = is .only l m r in
+    let y = is .only j k q in
+    (x .0 ∙ sym (y .0), x .1 ∙ sym (y .1), x .2 ∙ sym (y .2))
+
+safe-unlit : (m : Mode) (h : Past) (o : Outputs) (dr : Option Drive) → ModeIs m h → SafeIs m o dr → (InCheckout h → ⊥) → (i : ℕ) → i < 2 → (getD (o .supplies) i 0 ≡ 0) × (getD (o .heaters) i false ≡ false)
+safe-unlit Safe h o dr is s no-c = s .0
+safe-unlit Checkout h o dr is s no-c = absurd (no-c is)
+
+safe-lines : (m : Mode) (h : Past) (o : Outputs) (dr : Option Drive) (l : ℕ) → l < 5 → ModeIs m h → SafeIs m o dr → (InCheckout h → ⊥) → lit dr l ≡ false
+safe-lines Safe h o None l lt is s no-c = refl
+safe-lines Safe h o (Some d) l lt is s no-c = ne-eqb l (d .line) (λ e. omega (arith, e, s .1))
+safe-lines Checkout h o dr l lt is s no-c = absurd (no-c is)
+
+mode-of : (m : Mode) (h : Past) → ModeIs m h → (m ≡ Checkout) ↔ InCheckout h
+mode-of Safe h k = (λ e. let z : _≡_ {A = ℕ} 0 1 = cc in absurd (omega arith), λ a. absurd (k a))
+mode-of Checkout h k = (λ e. k, λ a. refl)
+
+-- a question reads what the board means
+two-read : {A : Type 0} (ls : List A) (x : A) (i : ℕ) → i < 2 → getD (getD ls 0 x ∷ getD ls 1 x ∷ []) i x ≡ getD ls i x
+two-read ls x zero lt = refl
+two-read ls x (suc zero) lt = refl
+two-read ls x (suc (suc i)) lt = absurd (omega arith)
+
+six-read : (o : Outputs) (i : ℕ) → i < 6 → getD (linesRead o) i false ≡ lineOn o i
+six-read o zero lt = refl
+six-read o (suc zero) lt = refl
+six-read o (suc (suc zero)) lt = refl
+six-read o (suc (suc (suc zero))) lt = refl
+six-read o (suc (suc (suc (suc zero)))) lt = refl
+six-read o (suc (suc (suc (suc (suc zero))))) lt = refl
+six-read o (suc (suc (suc (suc (suc (suc i)))))) lt = absurd (omega arith)
+
+module _ (h : Past) (s : State) (n : Now h s) where
+  supply-read : (i : ℕ) → i < 2 → supplyReads i h ≡ getD (s .out .supplies) i 0
+  supply-read i lt = ap (λ (l : List ℕ). getD l i 0) (n .reads .supplies-read) ∙ two-read (s .out .supplies) 0 i lt
+
+  heater-read : (i : ℕ) → i < 2 → heaterReads i h ≡ getD (s .out .heaters) i false
+  heater-read i lt = ap (λ (l : List Bool). getD l i false) (n .reads .heaters-read) ∙ two-read (s .out .heaters) false i lt
+
+  line-read : (i : ℕ) → i < 6 → lineReads i h ≡ lineOn (s .out) i
+  line-read i lt = ap (λ (l : List Bool). getD l i false) (n .reads .lines-read) ∙ six-read (s .out) i lt
+
+  parameter-read : (i : ℕ) → parameterReads i h ≡ getD (s .core .parameters) i 0
+  parameter-read i = ap (λ (l : List ℕ). getD l i 0) (n .reads .parameters-read)
+
+  line-runs : (l : ℕ) → l < 6 → (lineReads l h ≡ true) ↔ ((m : ℕ) × Runs l m h)
+  line-runs l lt = line-on (s .core .drive) h l (lineReads l h) (line-read l lt ∙ n .lines-are l lt) (n .drive-is)
+
+-- a confirm that is accepted is of the one order that was given
+rightful : (o : Order) (d : Did) (h : Past) → Rightly (d ∷ h) → ConfirmedOrder o (d ∷ h) → Confirms (orderOp o) (orderWords o) (d ∷ h)
+rightful o d h right c =
+    let x = right (c .0 .0) (c .0 .1) in
+    let same : x .0 ≡ o = given-one (x .0) o h (ago-map (λ t q y. y .0) (λ q y. y .0) (x .1 .in-time)) (c .1) in
+    subst (λ (p : Order). Confirms (orderOp p) (orderWords p) (d ∷ h)) same (x .1)
+
+-- what the past before an event knew of supplies, lines and parameters
+pub record Known (h : Past) : Type 0 where
+  pub supply-known : (s v : ℕ) → s < 2 → 0 < v → SwitchedOn s v h → supplyReads s h ≡ v
+  pub line-known : (l n : ℕ) → l < 6 → Runs l n h → lineReads l h ≡ true
+  pub parameter-known : (i v : ℕ) → i < 25 → ParameterIs i v h → parameterReads i h ≡ v
+
+known : (h : Past) (s : State) → Now h s → Known h
+known h s n = record {
+  supply-known = λ i v lt pos a. supply-read h s n i lt ∙ n .supplies-are i lt v pos .1 a;
+  line-known = λ l m lt r. line-runs h s n l lt .1 (m, r);
+  parameter-known = λ i v lt a. parameter-read h s n i ∙ n .params-are i lt v .1 a;
+}
+
+known-none : Known []
+known-none = record { supply-known = λ i v lt pos a. absurd (ago-none a); line-known = λ l m lt r. absurd (ago-none r); parameter-known = λ i v lt a. absurd (ago-none a) }
+
+module _ (d : Did) (h : Past) (before : Known h) (right : Rightly (d ∷ h)) where
+  -- a line that goes on starts its drive now
+  starts-now : (l n : ℕ) → l < 6 → lineReads l h ≡ false → Runs l n (d ∷ h) → Starts l n (d ∷ h)
+  starts-now l n lt off r = ⊎-elim (λ now. now .0 .0) (λ la. absurd (both-ways _ off (before .line-known l n lt (ran-on d h l n (la .was))))) (ago-cases d h r)
+
+  fires-now : (l n : ℕ) → l < 4 → Starts l n (d ∷ h) → Confirms 0x6612 (l ∷ n ∷ []) (d ∷ h)
+  fires-now l n lt (fires c) = rightful (FireRelease l n) d h right c
+  fires-now l n lt (opens e c y) = absurd (omega arith)
+  fires-now l n lt (closes e c y) = absurd (omega arith)
+  fires-now l n lt (shuts e c p r y) = absurd (omega arith)
+
+  -- no release has a line above 3
+  few : (l n : ℕ) → ConfirmedOrder (FireRelease l n) (d ∷ h) → l < 4
+  few l n c =
+      let x = right (c .0 .0) (c .0 .1) in
+      let same : x .0 ≡ FireRelease l n = given-one (x .0) (FireRelease l n) h (ago-map (λ t q y. y .0) (λ q y. y .0) (x .1 .in-time)) (c .1) in
+      ltb-true _ _ (subst (λ (p : Order). orderFirst p ≡ true) same (x .2))
+
+  -- line 4 goes on by an opening only
+  opens-now : (n : ℕ) → Starts 4 n (d ∷ h) → Confirms 0x660f [] (d ∷ h)
+  opens-now n (fires c) = absurd (omega (arith, few 4 n c))
+  opens-now n (opens e c y) = rightful OpenDoor d h right c
+  opens-now n (closes e c y) = absurd (omega arith)
+  opens-now n (shuts e c p r y) = absurd (omega arith)
+
+  sets-now : (i v : ℕ) → i < 25 → (parameterReads i h ≡ v → ⊥) → ParameterIs i v (d ∷ h) → Confirms 0x6607 (i ∷ v ∷ []) (d ∷ h) ⊎ PowersOn i v (d ∷ h)
+  sets-now i v lt other a =
+      ⊎-elim (λ now. ⊎-elim (λ c. inl (rightful (SetParameter i v) d h right c)) (λ p. inr p) (now .0)) (λ la. absurd (other (before .parameter-known i v lt (la .was)))) (ago-cases d h a)
+
+  raises-now : (i v : ℕ) → i < 2 → 0 < v → (supplyReads i h ≡ v → ⊥) → SwitchedOn i v (d ∷ h) → Confirms 0x6610 (i ∷ v ∷ []) (d ∷ h)
+  raises-now i v lt pos other a = ⊎-elim (λ now. rightful (SetSupply i v) d h right (now .0)) (λ la. absurd (other (before .supply-known i v lt pos (la .was)))) (ago-cases d h a)
+
+-- the interlocks after the newest event
+kept-now : (d : Did) (h : Past) (s : State) → Known h → Now (d ∷ h) s → Rightly (d ∷ h) → Kept (d ∷ h)
+kept-now d hh s before n right =
+    let h : Past = d ∷ hh in
+    let su = supply-read h s n in
+    let he = heater-read h s n in
+    let li = line-read h s n in
+    let pa = parameter-read h s n in
+    let runs = line-runs h s n in
+    let m = s .core .mode in
+    let dr = s .core .drive in
+    let mode = mode-of m h (n .mode-is) in
+    record {
+      supply-stands-as-confirmed = λ i v lt pos. (λ e. n .supplies-are i lt v pos .0 (sym (su i lt) ∙ e), λ a. su i lt ∙ n .supplies-are i lt v pos .1 a);
+      safe-supplies-off = λ no-c i lt. su i lt ∙ safe-unlit m h (s .out) dr (n .mode-is) (n .safe-is) no-c i lt .0;
+      safe-heaters-off = λ no-c i lt. he i lt ∙ safe-unlit m h (s .out) dr (n .mode-is) (n .safe-is) no-c i lt .1;
+      safe-lines-off = λ no-c l lt. let lt6 : l < 6 = omega arith in li l lt6 ∙ n .lines-are l lt6 ∙ safe-lines m h (s .out) dr l lt (n .mode-is) (n .safe-is) no-c;
+      line-on-while-driven = runs;
+      one-drive-at-a-time = one-drive dr h (n .drive-is);
+      confirm-confirms = λ words a. let x = right words a in (orderOp (x .0), orderWords (x .0), x .1);
+      raised-by-confirm = λ i v lt pos e other. raises-now d hh before right i v lt pos other (n .supplies-are i lt v pos .0 (sym (su i lt) ∙ e));
+      fired-by-confirm = λ l lt on off. let lt6 : l < 6 = omega arith in let r = runs l lt6 .0 on in (r .0, fires-now d hh before right l (r .0) lt (starts-now d hh before right l (r .0) lt6 off (r .1)));
+      opened-by-confirm = λ on off. let lt6 : _<_ 4 6 = omega arith in let r = runs 4 lt6 .0 on in opens-now d hh before right (r .0) (starts-now d hh before right 4 (r .0) lt6 off (r .1));
+      set-by-confirm = λ i v lt e other. sets-now d hh before right i v lt other (n .params-are i lt v .0 (sym (pa i) ∙ e));
+      mode-follows = (λ e. mode .0 (sym (n .reads .mode-read) ∙ e), λ a. n .reads .mode-read ∙ mode .1 a);
+      parameter-follows = λ i v lt. (λ e. n .params-are i lt v .0 (sym (pa i) ∙ e), λ a. pa i ∙ n .params-are i lt v .1 a);
+    }
+
+-- ---- power-on
+
+-- a parameter that power-on leaves is in its range
+restored-range : (i v : ℕ) → i < 25 → (rangeAt i .lowest ≤ restored i v) × (restored i v ≤ 255)
+restored-range i v lt = go (leb (rangeAt i .lowest) v) (leb v (rangeAt i .highest)) refl refl
+  where
+    high : rangeAt i .highest ≤ 255
+    high = leb-true _ 255 (all-below 25 (λ i. leb (rangeAt i .highest) 255) i refl lt)
+
+    fair : (rangeAt i .lowest ≤ rangeAt i .default) × (rangeAt i .default ≤ 255)
+    fair = (leb-true _ _ (all-below 25 (λ i. leb (rangeAt i .lowest) (rangeAt i .default)) i refl lt), leb-true _ 255 (all-below 25 (λ i. leb (rangeAt i .default) 255) i refl lt))
+
+    go : (a b : Bool) → leb (rangeAt i .lowest) v ≡ a → leb v (rangeAt i .highest) ≡ b → (rangeAt i .lowest ≤ cond (a && b) v (rangeAt i .default)) × (cond (a && b) v (rangeAt i .default) ≤ 255)
+    go true true ea eb = let x : rangeAt i .lowest ≤ v = leb-true _ _ ea in let y : v ≤ rangeAt i .highest = leb-true _ _ eb in (x, omega (arith, high, y))
+    go true false ea eb = fair
+    go false b ea eb = fair
+
+module _ (stored : List ℕ) where
+  abbrev on : Did
+  on = begins stored
+
+  restored-at : (i : ℕ) → i < 25 → getD (restoredAll stored) i 0 ≡ restored i (getD stored i 0)
+  restored-at i lt = getD-map-counting (λ i. restored i (getD stored i 0)) 0 25 i i 0 lt (omega arith)
+
+  ranges : (i : ℕ) → i < 25 → (rangeAt i .lowest ≤ getD (restoredAll stored) i 0) × (getD (restoredAll stored) i 0 ≤ 255)
+  ranges i lt = subst (λ (y : ℕ). (rangeAt i .lowest ≤ y) × (y ≤ 255)) (sym (restored-at i lt)) (restored-range i (getD stored i 0) lt)
+
+  on-none : {P : ℕ → Past → Type 0} {Q : Past → Type 0} → (P 0 (on ∷ []) → ⊥) → Ago P Q (on ∷ []) → ⊥
+  on-none no-p a = ⊎-elim (λ now. no-p (now .0)) (λ l. ago-none (l .was)) (ago-cases on [] a)
+
+  unmarked : (x : Mark) → on .came ≡ brought (mark x) → ⊥
+  unmarked x e = let z : _≡_ {A = ℕ} 0 1 = cc in omega arith
+
+  unframed : (op : ℕ) (ws : List ℕ) → Accepted op ws (on ∷ []) → ⊥
+  unframed op ws a = let e = a .0 .came-in in let z : _≡_ {A = ℕ} 0 1 = cc in omega arith
+
+  no-starts : (l n : ℕ) → Starts l n (on ∷ []) → ⊥
+  no-starts l n (fires c) = unframed _ _ (c .0 .1)
+  no-starts l n (opens e c y) = unframed _ _ (c .0 .1)
+  no-starts l n (closes e c y) = unframed _ _ c
+  no-starts l n (shuts e c p r y) = ⊎-elim (unframed _ _) (⊎-elim (λ q. omega (arith, q .sampled)) (λ q. unmarked _ (q .came-in .0))) (c .0)
+
+  zeros : (i : ℕ) → i < 2 → (getD (dark .supplies) i 0 ≡ 0) × (getD (dark .heaters) i false ≡ false)
+  zeros zero lt = (refl, refl)
+  zeros (suc zero) lt = (refl, refl)
+  zeros (suc (suc i)) lt = absurd (omega arith)
+
+  six-off : (k : ℕ) → k < 6 → lineOn dark k ≡ false
+  six-off zero lt = refl
+  six-off (suc zero) lt = refl
+  six-off (suc (suc zero)) lt = refl
+  six-off (suc (suc (suc zero))) lt = refl
+  six-off (suc (suc (suc (suc zero)))) lt = refl
+  six-off (suc (suc (suc (suc (suc zero))))) lt = refl
+  six-off (suc (suc (suc (suc (suc (suc k)))))) lt = absurd (omega arith)
+
+  now-on : Now (on ∷ []) (poweredOn stored)
+  now-on = record {
+    mode-is = on-none (unframed _ _);
+    wait-is = tt;
+    supplies-are = λ i lt v pos. (λ e. absurd (omega (arith, e, zeros i lt .0)), λ a. absurd (on-none (λ c. unframed _ _ (c .0 .1)) a));
+    params-are = λ i lt. param-set on [] i (getD (restoredAll stored) i 0) (inr (stored, refl, sym (restored-at i lt))) (λ w. ⊎-elim (λ c. absurd (unframed _ _ (c .0 .1))) (λ p. let e = p .1 in let f = p .2 in let g = restored-at i lt in cc));
+    full = length-map-counting (λ i. restored i (getD stored i 0)) 0 25;
+    ranged = ranges;
+    drive-is = λ l n. on-none (λ a. no-starts l n (a .0));
+    lines-are = six-off;
+    safe-is = (zeros, tt);
+    reads = record { mode-read = refl; parameters-read = refl; supplies-read = refl; heaters-read = refl; lines-read = refl };
+  }
+
+  counts-on : CountsAre (0 ∷ 0 ∷ 0 ∷ []) (on ∷ [])
+  counts-on zero lt = count-kept (Out 0) on [] 0 refl (count-none (Out 0))
+  counts-on (suc zero) lt = count-kept (Out 1) on [] 0 refl (count-none (Out 1))
+  counts-on (suc (suc zero)) lt = count-kept (Out 2) on [] 0 refl (count-none (Out 2))
+  counts-on (suc (suc (suc c))) lt = absurd (omega arith)
+
+  pub sound-on : Sound (on ∷ []) (poweredOn stored)
+  sound-on = record {
+    now = now-on;
+    counts = counts-on;
+    last = λ v. on-none (λ c. unmarked _ (c .1 .0));
+    whole = record { supplies = refl; heaters = refl; lines = refl };
+    kept = always-more Kept on [] (kept-now on [] (poweredOn stored) known-none now-on (λ words a. absurd (unframed _ _ a))) (always-none Kept);
+  }
+
+-- ---- one event more
+
+now-metered : (h : Past) (s : State) (me : Meters) → Now h s → Now h (meters-are me s)
+now-metered h s me k = record {
+  mode-is = k .mode-is;
+  wait-is = k .wait-is;
+  supplies-are = k .supplies-are;
+  params-are = k .params-are;
+  full = k .full;
+  ranged = k .ranged;
+  drive-is = k .drive-is;
+  lines-are = k .lines-are;
+  safe-is = k .safe-is;
+  reads = record { mode-read = k .reads .mode-read; parameters-read = k .reads .parameters-read; supplies-read = k .reads .supplies-read; heaters-read = k .reads .heaters-read; lines-read = k .reads .lines-read };
+}
+
+event-comes : (e : Event) (x : Shown) (s : State) (h : Past) → x .fault ≡ answerOf s e → Sound h s → Comes e x s (next s e) (metersAfter e s) h
+event-comes tick x s h f k =
+    let d = did tick x in
+    record { deed = passes; same = refl; told-so = told d h passes 6 refl (λ q. let e = q .2 in let z : _≡_ {A = ℕ} 0 1 = cc in omega arith) (λ e. absurd (omega arith)) (λ e. absurd (omega arith)) (λ e. absurd (omega arith)) (λ e. absurd (omega arith)) (λ e i. absurd (omega arith)) (omega arith) (omega arith) refl refl; fits = tt }
+event-comes (frame p r) x s h f k = frame-comes p r x h s f (k .now)
+event-comes (sample y) x s h f k = sample-comes y x s h (k .counts) (k .now)
+event-comes (mark y) x s h f k = mark-comes y x s h f (k .last) (k .now)
+
+no-confirm : (d : Did) (h : Past) → ((p r : List ℕ) → d .came ≡ brought (frame p r) → ⊥) → Rightly (d ∷ h)
+no-confirm d h never words a = absurd (never (a .0 .primary) (a .0 .redundant) (a .0 .came-in))
+
+event-right : (e : Event) (x : Shown) (s : State) (h : Past) → x .fault ≡ answerOf s e → Now h s → Rightly (did e x ∷ h)
+event-right tick x s h f k = no-confirm (did tick x) h (λ p r e. let z : _≡_ {A = ℕ} 0 1 = cc in omega arith)
+event-right (frame p r) x s h f k = frame-right p r x s h f k
+event-right (sample y) x s h f k = no-confirm (did (sample y) x) h (λ p r e. let z : _≡_ {A = ℕ} 0 1 = cc in omega arith)
+event-right (mark y) x s h f k = no-confirm (did (mark y) x) h (λ p r e. let z : _≡_ {A = ℕ} 0 1 = cc in omega arith)
+
+-- the counts and the latest raw count after an event
+
+trip-counts : (t : Option Check) (z : State) → tripMeters t z .counts ≡ z .core .meters .counts
+trip-counts None z = refl
+trip-counts (Some c) z = refl
+
+trip-last : (t : Option Check) (z : State) → tripMeters t z .last ≡ z .core .meters .last
+trip-last None z = refl
+trip-last (Some c) z = refl
+
+event-counts : (e : Event) (x : Shown) (s : State) (h : Past) → Sound h s → CountsAre (metersAfter e s .counts) (did e x ∷ h)
+event-counts tick x s h k = λ c lt. count-kept (Out c) (did tick x) h (getD (s .core .meters .counts) c 0) refl (k .counts c lt)
+event-counts (frame p r) x s h k = λ c lt. count-kept (Out c) (did (frame p r) x) h (getD (s .core .meters .counts) c 0) refl (k .counts c lt)
+event-counts (sample y) x s h k = subst (λ (l : List ℕ). CountsAre l (did (sample y) x ∷ h)) (sym (trip-counts (sampleTrip y s) (counts-are (countsAfter y s) s))) (sample-counts y x s h (k .now) (k .counts))
+event-counts (mark y) x s h k = subst (λ (l : List ℕ). CountsAre l (did (mark y) x ∷ h)) (sym (go (tooLarge y))) (λ c lt. count-kept (Out c) (did (mark y) x) h (getD (s .core .meters .counts) c 0) refl (k .counts c lt))
+  where
+    go : (b : Bool) → cond b (s .core .meters) (tripMeters (markTrip y (s .core)) (clocked y s)) .counts ≡ s .core .meters .counts
+    go true = refl
+    go false = trip-counts (markTrip y (s .core)) (clocked y s)
+
+no-count : (d : Did) (h : Past) → ((y : Mark) → d .came ≡ brought (mark y) → ⊥) → (v : ℕ) → Counts v (d ∷ h) → ⊥
+no-count d h never v c = never (c .0) (c .1 .0)
+
+event-last : (e : Event) (x : Shown) (s : State) (h : Past) → x .fault ≡ answerOf s e → Sound h s → LastIs (metersAfter e s .last) (did e x ∷ h)
+event-last tick x s h f k = last-kept (did tick x) h (s .core .meters .last) (no-count (did tick x) h (λ y e. let z : _≡_ {A = ℕ} 0 1 = cc in omega arith)) (k .last)
+event-last (frame p r) x s h f k = last-kept (did (frame p r) x) h (s .core .meters .last) (no-count (did (frame p r) x) h (λ y e. let z : _≡_ {A = ℕ} 0 1 = cc in omega arith)) (k .last)
+event-last (sample y) x s h f k =
+    subst (λ (o : Option ℕ). LastIs o (did (sample y) x ∷ h)) (sym (trip-last (sampleTrip y s) (counts-are (countsAfter y s) s)))
+    (last-kept (did (sample y) x) h (s .core .meters .last) (no-count (did (sample y) x) h (λ y e. let z : _≡_ {A = ℕ} 0 1 = cc in omega arith)) (k .last))
+event-last (mark y) x s h f k = go (tooLarge y) f
+  where
+    go : (b : Bool) → x .fault ≡ faultOf (cond b (Err RawCount) (Ok tt)) → LastIs (cond b (s .core .meters) (tripMeters (markTrip y (s .core)) (clocked y s)) .last) (did (mark y) x ∷ h)
+    go true f = last-kept (did (mark y) x) h (s .core .meters .last) (λ v c. let e = c .1 .1 in let z : _≡_ {A = ℕ} 0 1 = cc in omega arith) (k .last)
+    go false f =
+        subst (λ (o : Option ℕ). LastIs o (did (mark y) x ∷ h)) (sym (trip-last (markTrip y (s .core)) (clocked y s)))
+        (last-set (did (mark y) x) h (y .raw) (y, (refl, f), refl) (λ v c. let e = c .1 .0 in let g = c .2 in cc))
+
+-- no deed touches the counts and the latest raw count, and every deed leaves a whole board
+
+pub record Aside (a : Meters) (t : State) : Type 0 where
+  pub counts-same : t .core .meters .counts ≡ a .counts
+  pub last-same : t .core .meters .last ≡ a .last
+  pub whole-still : Whole (t .out)
+
+aside : (t : State) → Whole (t .out) → Aside (t .core .meters) t
+aside t w = record { counts-same = refl; last-same = refl; whole-still = w }
+
+either-aside : (b : Bool) (a : Meters) (x y : State) → Aside a x → Aside a y → Aside a (cond b x y)
+either-aside true a x y p q = p
+either-aside false a x y p q = q
+
+shut-aside : (a : Meters) (dr : Option Drive) (s : State) → Aside a s → Aside a (shutFrom dr s)
+shut-aside a None s k = either-aside (eqb (getD (s .core .parameters) 24 0) 1) a _ s (record { counts-same = k .counts-same; last-same = k .last-same; whole-still = whole-line (s .out) 5 _ (k .whole-still) }) k
+shut-aside a (Some d) s k = k
+
+ended-aside : (a : Meters) (dr : Option Drive) (s : State) → Aside a s → Aside a (endedFrom dr s)
+ended-aside a None s k = k
+ended-aside a (Some d) s k = either-aside (eqb (d .line) 5) a s _ k (record { counts-same = k .counts-same; last-same = k .last-same; whole-still = whole-line (s .out) (d .line) Off (k .whole-still) })
+
+apply-aside : (x : Deed) (s : State) → Whole (s .out) → Aside (s .core .meters) (apply x s)
+apply-aside (rests r) s w = aside _ w
+apply-aside (heats i b) s w = aside _ (whole-heater (s .out) i b w)
+apply-aside offs s w = aside _ (whole-supply _ 1 0 (whole-supply (s .out) 0 0 w))
+apply-aside checks s w = aside _ w
+apply-aside passes s w = record { counts-same = refl; last-same = refl; whole-still = tick-whole (s .core .drive) (s .out) w }
+apply-aside (acting (SetParameter i v)) s w = aside _ w
+apply-aside (acting OpenDoor) s w = aside _ (whole-line (s .out) 4 _ w)
+apply-aside (acting (SetSupply i v)) s w = aside _ (whole-supply (s .out) i v w)
+apply-aside (acting (FireRelease l n)) s w = aside _ (whole-line (s .out) l _ w)
+apply-aside closing s w = aside _ (whole-line (s .out) 5 _ w)
+apply-aside enters s w =
+    let black : Aside (s .core .meters) (darkened (mode-is Safe s)) = aside _ (whole-heater _ 1 false (whole-heater _ 0 false (whole-supply _ 1 0 (whole-supply (s .out) 0 0 w)))) in
+    shut-aside (s .core .meters) (ended (darkened (mode-is Safe s)) .core .drive) (ended (darkened (mode-is Safe s))) (ended-aside (s .core .meters) (s .core .drive) (darkened (mode-is Safe s)) black)
+
+sound-more : (e : Event) (h : Past) (s : State) → Sound h s → Sound (came-of s e ∷ h) (next s e)
+sound-more e h s k =
+    let x = shownOf s e in
+    let me = metersAfter e s in
+    let c = event-comes e x s h refl k in
+    let after = apply (c .deed) (meters-are me s) in
+    let a = apply-aside (c .deed) (meters-are me s) (k .whole) in
+    let same : next s e ≡ after = c .same in
+    let read : ReadIs x (next s e) = record { mode-read = refl; parameters-read = refl; supplies-read = refl; heaters-read = refl; lines-read = refl } in
+    let z = now-deed (did e x) h (c .deed) (meters-are me s) (c .told-so) (c .fits) (k .whole) (subst (ReadIs x) same read) (now-metered h s me (k .now)) in
+    let n : Now (did e x ∷ h) (next s e) = subst (Now (did e x ∷ h)) (sym same) z in
+    record {
+      now = n;
+      counts = subst (λ (l : List ℕ). CountsAre l (did e x ∷ h)) (sym (ap (λ (t : State). t .core .meters .counts) same ∙ a .counts-same)) (event-counts e x s h k);
+      last = subst (λ (o : Option ℕ). LastIs o (did e x ∷ h)) (sym (ap (λ (t : State). t .core .meters .last) same ∙ a .last-same)) (event-last e x s h refl k);
+      whole = subst (λ (t : State). Whole (t .out)) (sym same) (a .whole-still);
+      kept = always-more Kept (did e x) h (kept-now (did e x) h (next s e) (known h s (k .now)) n (event-right e x s h refl (k .now))) (k .kept);
+    }
+
+pub every : {h : Past} {s : State} → Follows h s → Sound h s
+every (begun stored) = sound-on stored
+every (gone {h} {s} e r) = sound-more e h s (every r)
+
+pub stands : {h : Past} {s : State} → Follows h s → Stands h s
+stands f = record { follows = f; interlocks = every f .kept }
