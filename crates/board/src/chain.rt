@@ -3,6 +3,7 @@ ghost use mathlib.Core.Path.{_≡_};
 ghost use Prim.Native.Nat.{_+_, _*_, _/_, _%_, _^_, _<_, _≤_};
 ghost use Rattle.board.specs.Bits.{put, field-at};
 ghost use Rattle.board.specs.Chain.{word-outputs};
+ghost use Rattle.board.specs.Shift.{sent};
 use super::Board;
 use super::Fault;
 use super::LineState;
@@ -36,9 +37,9 @@ fn get_field(word: u32, width: u8, at: u8) -> u8
     ((word >> at) & ((1u32 << width) - 1)) as u8
 }
 
-// Brings a word across: 32 clocks, highest bit first, and a latch.
+// Brings a word across: 32 clocks, highest bit first, and one latch.
 fn send(register: &mut ShiftRegister, word: u32)
-    ensures { λ _. ⌜ now (register .exit) ≡ record { cells = word; latched = word } ⌝ }
+    ensures { λ _. ⌜ now (register .exit) ≡ sent (now (register .entry)) word ⌝ }
 {
     for i in 0..32u32 {
         register.clock((word >> (31 - i)) & 1 == 1);
@@ -49,7 +50,7 @@ fn send(register: &mut ShiftRegister, word: u32)
 impl ChainBoard {
     /// A board after its reset: everything off.
     pub fn new() -> ChainBoard
-        ensures { λ r. ⌜ r .register ≡ record { cells = 0; latched = 0 } ⌝ }
+        ensures { λ r. ⌜ r .register ≡ record { cells = 0; latched = 0; latches = 0 } ⌝ }
     {
         ChainBoard {
             register: ShiftRegister::new(),

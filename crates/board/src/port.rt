@@ -12,7 +12,7 @@ use super::LineState;
 
 /// Supplies 0 and 1 have a byte each; bits 0 and 1 of `heaters` are the heaters, bits 0 to 5 of `lines` the lines.
 /// The other bits of those two bytes stay as they were found.
-#[derive(Clone, Copy, PartialEq, Eq, Debug)]
+#[derive(Drop)]
 pub struct PortBoard {
     supply0: u8,
     supply1: u8,

@@ -22,8 +22,6 @@ pub use fault::FaultDisplay;
 pub use fault::FaultPartialEq;
 pub use fault::Note;
 pub use fault::NoteDisplay;
-pub use parameters::PARAMETERS;
-pub use parameters::Range;
 pub use parameters::defaults;
 pub use tick::Due;
 pub use tick::DueDebug;

@@ -3,45 +3,45 @@ ghost use mathlib.Core.Path.{_≡_};
 ghost use Prim.Native.Nat.{_<_};
 ghost use Rattle.head.specs.Parameters.{rangeAt, within, allowed, usuals};
 
-pub const NOMINAL_LEVEL: usize = 0;
+pub(super) const NOMINAL_LEVEL: usize = 0;
 
-pub const LARGEST_SET_POINT: usize = 1;
+pub(super) const LARGEST_SET_POINT: usize = 1;
 
-pub const PLATE_TOLERANCE: usize = 2;
+pub(super) const PLATE_TOLERANCE: usize = 2;
 
-pub const LARGEST_STRIP: usize = 3;
+pub(super) const LARGEST_STRIP: usize = 3;
 
-pub const LEAST_ANODE: usize = 4;
+pub(super) const LEAST_ANODE: usize = 4;
 
-pub const LARGEST_ANODE: usize = 5;
+pub(super) const LARGEST_ANODE: usize = 5;
 
-pub const READ_BACK_FACTOR: usize = 6;
+pub(super) const READ_BACK_FACTOR: usize = 6;
 
-pub const COUNT_RATE: usize = 10;
+pub(super) const COUNT_RATE: usize = 10;
 
-pub const SENSOR_LIMITS: usize = 11;
+pub(super) const SENSOR_LIMITS: usize = 11;
 
-pub const SENSOR_MASK: usize = 19;
+pub(super) const SENSOR_MASK: usize = 19;
 
-pub const CHECK_MASK: usize = 20;
+pub(super) const CHECK_MASK: usize = 20;
 
-pub const OVERRIDE: usize = 21;
+pub(super) const OVERRIDE: usize = 21;
 
-pub const SAFETY_SECONDS: usize = 22;
+pub(super) const SAFETY_SECONDS: usize = 22;
 
-pub const DOOR_PERIOD: usize = 23;
+pub(super) const DOOR_PERIOD: usize = 23;
 
-pub const CLOSE_ON_SAFE: usize = 24;
+pub(super) const CLOSE_ON_SAFE: usize = 24;
 
 /// What a parameter may be, and its default.
 #[derive(Clone, Copy)]
-pub struct Range {
-    pub lowest: u8,
-    pub highest: u8,
-    pub default: u8,
+pub(super) struct Range {
+    lowest: u8,
+    highest: u8,
+    pub(super) default: u8,
 }
 
-pub const PARAMETERS: [Range; 25] = [
+const PARAMETERS: [Range; 25] = [
     Range {
         lowest: 0,
         highest: 255,
@@ -179,7 +179,7 @@ pub(super) fn range_of(i: usize) -> Range
 
 impl Range {
     /// Whether the value lies within the range.
-    pub fn allows(&self, value: u8) -> bool
+    pub(super) fn allows(&self, value: u8) -> bool
         ensures { λ r. ⌜ r ≡ within (now (self .entry)) value ⌝ }
     {
         self.lowest <= value && value <= self.highest

@@ -14,7 +14,7 @@ pub struct Kind {
     pub not_in_safe: bool,
 }
 
-pub const COMMANDS: [Kind; 11] = [
+const COMMANDS: [Kind; 11] = [
     Kind {
         opcode: 0x6601,
         words: 0,

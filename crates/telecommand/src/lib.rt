@@ -17,7 +17,6 @@ pub use fault::WriteFault;
 pub use fault::WriteFaultDebug;
 pub use fault::WriteFaultDisplay;
 pub use fault::WriteFaultPartialEq;
-pub use kinds::COMMANDS;
 pub use kinds::Kind;
 pub use kinds::kind_of;
 pub use link::choose;

@@ -7,19 +7,19 @@ use super::ReadFault;
 
 /// Octets 0 and 1 of a packet: version, type, secondary header flag and application process.
 #[derive(Clone, Copy)]
-pub struct PacketId {
+pub(super) struct PacketId {
     pub high: u8,
     pub low: u8,
 }
 
 /// A telecommand without a secondary header, of the application process 0x101.
-pub const TELECOMMAND: PacketId = PacketId {
+pub(super) const TELECOMMAND: PacketId = PacketId {
     high: 0x11,
     low: 0x01,
 };
 
 /// The data field of a well formed packet: everything from octet 6.
-pub fn data_field(link: &[u8], id: PacketId) -> Result<&[u8], ReadFault>
+pub(super) fn data_field(link: &[u8], id: PacketId) -> Result<&[u8], ReadFault>
     ensures { λ r. ⌜ shown r ≡ fieldOf (id .high) (id .low) (now (link .entry)) ⌝ }
 {
     let [first, second, flags, _, high, low, field @ ..] = link else {
@@ -42,7 +42,7 @@ pub fn data_field(link: &[u8], id: PacketId) -> Result<&[u8], ReadFault>
 }
 
 /// The header of a packet that stands alone (sequence flags 11), with one octet more in its data field than `number`.
-pub fn header(id: PacketId, count: u16, number: u16) -> [u8; 6]
+pub(super) fn header(id: PacketId, count: u16, number: u16) -> [u8; 6]
     requires { ⌜ count ≤ 16383 ⌝ }
     ensures { λ r. ⌜ r ≡ headerOf (id .high) (id .low) count number ⌝ }
 {
