@@ -21,15 +21,17 @@ enum Setting {
     Line(u8, LineState),
 }
 
-const SETTINGS: [Setting; 8] = [
+const SETTINGS: [Setting; 10] = [
     Setting::Supply(0, 0x5A),
     Setting::Supply(1, 200),
+    Setting::Heater(0, true),
     Setting::Heater(1, true),
-    Setting::Line(5, LineState::On),
+    Setting::Heater(0, false),
     Setting::Line(0, LineState::On),
     Setting::Line(3, LineState::On),
-    Setting::Line(0, LineState::Off),
-    Setting::Heater(0, true),
+    Setting::Line(5, LineState::On),
+    Setting::Line(4, LineState::On),
+    Setting::Line(5, LineState::Off),
 ];
 
 // Numbers that name nothing.
@@ -76,8 +78,8 @@ fn port_and_chain_agree() -> Result<(), Fail> {
         apply(&mut chain, setting)?;
         agree(&port, &chain)?;
     }
-    check_eq(port.bytes(), [0x5A, 200, 0b11, 0b10_1000])?;
-    check_eq(chain.word(), 0x00C8_5AE8)
+    check_eq(port.bytes(), [0x5A, 200, 0b10, 0b01_1001])?;
+    check_eq(chain.word(), 0x00C8_5A99)
 }
 
 // The board refuses to set what its number does not name.
@@ -108,12 +110,12 @@ fn the_adapter_exchanges_in_pairs() -> Result<(), Fail> {
         apply(&mut board, setting)?;
     }
     check_eq(board.supply(1)?, 200)?;
-    check(board.line(3)?.is_on() && board.line(5)?.is_on() && !board.line(4)?.is_on())?;
-    check_eq(board.board().bytes(), [200, 0x5A, 0b11, 0b10_0100])?;
+    check(board.line(3)?.is_on() && board.line(4)?.is_on() && !board.line(5)?.is_on())?;
+    check_eq(board.board().bytes(), [200, 0x5A, 0b01, 0b01_0110])?;
     let twice = Crossed::new(board);
     agree(&twice, twice.board().board())?;
     check_eq(
         twice.into_board().into_board().bytes(),
-        [200, 0x5A, 0b11, 0b10_0100],
+        [200, 0x5A, 0b01, 0b01_0110],
     )
 }
