@@ -25,7 +25,7 @@ Means Checkout t = t ≡ tele 0x6603 []
 Means (Confirm a b) t = (t ≡ tele 0x6604 (t .words)) × (word (t .words) 0 ≡ a) × (word (t .words) 2 ≡ b)
 Means CloseDoor t = t ≡ tele 0x660d []
 Means SuppliesOff t = t ≡ tele 0x660e []
-Means (Heater i v) t = Unit {0}
+Means (Heater i v) t = t ≡ tele 0x6611 (i ∷ v ∷ [])
 Means (Critical o) t = t ≡ tele (orderOp o) (orderWords o)
 
 two : (ws : List ℕ) → length ws ≡ 2 → ws ≡ getD ws 0 0 ∷ getD ws 1 0 ∷ []
@@ -60,5 +60,5 @@ module _ (t : Telecommand) (legal : Legal (t .opcode) (t .words)) where
       (is 0x660e SuppliesOff _ (bare 0x660e (λ l. l))
       (is 0x660f (Critical OpenDoor) _ (bare 0x660f (λ l. l))
       (is 0x6610 (Critical (SetSupply (first t) (second t))) _ (worded 0x6610 (λ l. l))
-      (is 0x6611 (Heater (first t) (second t)) _ (λ e. tt)
+      (is 0x6611 (Heater (first t) (second t)) _ (worded 0x6611 (λ l. l))
       (is 0x6612 (Critical (FireRelease (first t) (second t))) Nothing (worded 0x6612 (λ l. l)) tt)))))))))

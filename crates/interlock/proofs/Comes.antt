@@ -159,10 +159,11 @@ did e x = record { came = brought e; shown = x }
 
 module _ (d : Did) (h : Past) where
   -- by the number of what came
-  pub told : (x : Deed) (n : ℕ) → tag (d .came) ≡ n → Is x (d ∷ h) → (3 ≡ n → kind x ≡ 5) → (5 ≡ n → kind x ≡ 2) → (2 ≡ n → kind x ≡ 3) → (4 ≡ n → kind x ≡ 6) → (1 ≡ n → InCheckout h → kind x ≡ 7) → 0 < n → n < 12 → sampling (d .came) ≡ 0 → weight (d .came) ≡ lasts x → Told x d h
-  told x n e is c f k l s pos low us w = record {
+  pub told : (x : Deed) (n : ℕ) → tag (d .came) ≡ n → Is x (d ∷ h) → (3 ≡ n → kind x ≡ 5) → (9 ≡ n → kind x ≡ 1) → (5 ≡ n → kind x ≡ 2) → (2 ≡ n → kind x ≡ 3) → (4 ≡ n → kind x ≡ 6) → (1 ≡ n → InCheckout h → kind x ≡ 7) → 0 < n → n < 12 → sampling (d .came) ≡ 0 → weight (d .came) ≡ lasts x → Told x d h
+  told x n e is c b f k l s pos low us w = record {
     is = is;
     confirmed = λ op ws q. c (sym (tag-of d _ _ (q .0 .1 .0)) ∙ e);
+    heated = λ i v a. b (sym (tag-of d _ _ (a .0)) ∙ e);
     cleared = λ a. f (sym (tag-of d _ _ (a .0)) ∙ e);
     checked = λ a. k (sym (tag-of d _ _ (a .0)) ∙ e);
     closed = λ a. l (sym (tag-of d _ _ (a .0)) ∙ e);
@@ -178,6 +179,7 @@ module _ (d : Did) (h : Past) where
       record {
         is = is;
         confirmed = λ op ws q. absurd (never (q .0 .1 .1));
+        heated = λ i v a. absurd (never (a .1));
         cleared = λ a. absurd (never (a .1));
         checked = λ a. absurd (never (a .1));
         closed = λ a. absurd (never (a .1));

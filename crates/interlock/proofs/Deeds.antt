@@ -27,8 +27,8 @@ use Rattle.interlock.specs.Events.{suppliesRead, heatersRead, linesRead}
 use Rattle.interlock.specs.History.{Came, powered, brought, Did, Past, Ago, weight, ticks, Accepted, IsFrame, Confirmed, Sets, ParameterIs, Leaves, InCheckout, EntersSafe, SwitchedOn, DoorTime, Starts, fires, opens, closes, shuts, Runs, lastShown, lineReads}
 use Rattle.interlock.specs.declared.step.Shown.{Shown}
 use Rattle.interlock.proofs.Agos.{ago-now}
-use Rattle.interlock.proofs.Orders.{ConfirmedOrder}
-use Rattle.interlock.proofs.Parts.{ModeIs, WaitIs, SupplyIs, ParamIs, Driven, DriveIs, lessBy, waitBy, mode-kept, mode-safe, supply-kept, supply-cleared, supply-set, param-kept, param-set, drive-less, drive-starts, drive-ends, drive-closing, wait-less, given-one}
+use Rattle.interlock.proofs.Orders.{ConfirmedOrder, one-command}
+use Rattle.interlock.proofs.Parts.{ModeIs, WaitIs, SupplyIs, HeaterIs, ParamIs, Driven, DriveIs, lessBy, waitBy, mode-kept, mode-safe, supply-kept, supply-cleared, supply-set, heater-kept, heater-cleared, heater-set, param-kept, param-set, drive-less, drive-starts, drive-ends, drive-closing, wait-less, given-one}
 use Rattle.interlock.proofs.Boards.{at-set, lit, lineOn, LinesAre, OnlyClosing, Unlit, SafeIs, lines-on, lines-off, whole-line, both-off, Long, less-none, tick-lines, tick-supplies}
 
 -- how head and board read in a state
@@ -44,6 +44,7 @@ pub record Now (h : Past) (s : State) : Type 0 where
   pub mode-is : ModeIs (s .core .mode) h
   pub wait-is : WaitIs (s .core .waiting) h
   pub supplies-are : (i : ℕ) → i < 2 → SupplyIs i (getD (s .out .supplies) i 0) h
+  pub heaters-are : (i : ℕ) → i < 2 → HeaterIs i (getD (s .out .heaters) i false) h
   pub params-are : (i : ℕ) → i < 25 → ParamIs i (getD (s .core .parameters) i 0) h
   pub full : length (s .core .parameters) ≡ 25
   pub ranged : (i : ℕ) → i < 25 → (rangeAt i .lowest ≤ getD (s .core .parameters) i 0) × (getD (s .core .parameters) i 0 ≤ 255)
@@ -54,7 +55,7 @@ pub record Now (h : Past) (s : State) : Type 0 where
 
 pub data Deed : Type 0 where
   rests : Option Waiting → Deed
-  heats : ℕ → Bool → Deed
+  heats : ℕ → ℕ → Deed
   offs : Deed
   checks : Deed
   passes : Deed
@@ -65,7 +66,7 @@ pub data Deed : Type 0 where
 -- from 5 on a drive may start
 abbrev pub kind : Deed → ℕ
 kind (rests w) = 0
-kind (heats i b) = 1
+kind (heats i v) = 1
 kind offs = 2
 kind checks = 3
 kind passes = 4
@@ -75,7 +76,7 @@ kind enters = 7
 
 abbrev pub lasts : Deed → ℕ
 lasts (rests w) = 0
-lasts (heats i b) = 0
+lasts (heats i v) = 0
 lasts offs = 0
 lasts checks = 0
 lasts passes = 1
@@ -85,7 +86,7 @@ lasts enters = 0
 
 abbrev pub apply : Deed → State → State
 apply (rests w) s = waiting-is w s
-apply (heats i b) s = st (s .core .mode) None (s .core .drive) (s .core .parameters) (s .core .meters) (with-heater (s .out) i b)
+apply (heats i v) s = st (s .core .mode) None (s .core .drive) (s .core .parameters) (s .core .meters) (with-heater (s .out) i (eqb v 1))
 apply offs s = st (s .core .mode) None (s .core .drive) (s .core .parameters) (s .core .meters) (with-supply (with-supply (s .out) 0 0) 1 0)
 apply checks s = st Checkout None (s .core .drive) (s .core .parameters) (s .core .meters) (s .out)
 apply passes s = ticked s
@@ -96,7 +97,7 @@ apply enters s = secured (mode-is Safe s)
 -- what the history says of it
 abbrev pub Is : Deed → Past → Type 0
 Is (rests w) h = WaitIs w h
-Is (heats i b) h = Unit {0}
+Is (heats i v) h = Accepted 0x6611 (i ∷ v ∷ []) h
 Is offs h = Accepted 0x660e [] h
 Is checks h = Accepted 0x6603 [] h
 Is passes h = IsFrame h → ⊥
@@ -113,7 +114,7 @@ May (FireRelease l n) s = (s .core .mode ≡ Checkout) × (s .core .drive ≡ No
 
 abbrev pub Fits : Deed → State → Type 0
 Fits (rests w) s = Unit {0}
-Fits (heats i b) s = s .core .mode ≡ Checkout
+Fits (heats i v) s = s .core .mode ≡ Checkout
 Fits offs s = Unit {0}
 Fits checks s = Unit {0}
 Fits passes s = Unit {0}
@@ -125,6 +126,7 @@ Fits enters s = Unit {0}
 pub record Told (x : Deed) (d : Did) (h : Past) : Type 0 where
   pub is : Is x (d ∷ h)
   pub confirmed : (op : ℕ) (ws : List ℕ) → Confirmed op ws (d ∷ h) → kind x ≡ 5
+  pub heated : (i v : ℕ) → Accepted 0x6611 (i ∷ v ∷ []) (d ∷ h) → kind x ≡ 1
   pub cleared : Accepted 0x660e [] (d ∷ h) → kind x ≡ 2
   pub checked : Accepted 0x6603 [] (d ∷ h) → kind x ≡ 3
   pub closed : Accepted 0x660d [] (d ∷ h) → kind x ≡ 6
@@ -161,6 +163,9 @@ module _ (d : Did) (h : Past) where
     supplies-stand : (kind x ≡ 2 → ⊥) → (kind x ≡ 5 → ⊥) → (kind x ≡ 7 → ⊥) → (i : ℕ) → i < 2 → SupplyIs i (getD (s .out .supplies) i 0) (d ∷ h)
     supplies-stand n2 n5 n7 i lt = supply-kept d h i (getD (s .out .supplies) i 0) (λ w c. n5 (t .confirmed _ _ c)) (λ a. n2 (t .cleared a)) (λ e. n7 (t .entry e)) (k .supplies-are i lt)
 
+    heaters-stand : (kind x ≡ 1 → ⊥) → (kind x ≡ 7 → ⊥) → (i : ℕ) → i < 2 → HeaterIs i (getD (s .out .heaters) i false) (d ∷ h)
+    heaters-stand n1 n7 i lt = heater-kept d h i (getD (s .out .heaters) i false) (λ v a. n1 (t .heated i v a)) (λ e. n7 (t .entry e)) (k .heaters-are i lt)
+
     mode-stands : (kind x ≡ 3 → ⊥) → (kind x ≡ 7 → ⊥) → ModeIs (s .core .mode) (d ∷ h)
     mode-stands n3 n7 = mode-kept d h (s .core .mode) (λ a. n3 (t .checked a)) (λ e. n7 (t .entry e)) (k .mode-is)
 
@@ -176,6 +181,7 @@ module _ (d : Did) (h : Past) where
     mode-is = mode-stands (rests w) s t k (λ e. omega arith) (λ e. omega arith);
     wait-is = t .is;
     supplies-are = supplies-stand (rests w) s t k (λ e. omega arith) (λ e. omega arith) (λ e. omega arith);
+    heaters-are = heaters-stand (rests w) s t k (λ e. omega arith) (λ e. omega arith);
     params-are = params-stand (rests w) s t k (λ e. omega arith);
     full = k .full;
     ranged = k .ranged;
@@ -189,20 +195,25 @@ module _ (d : Did) (h : Past) where
   lit-mode Safe o dr e = let z : _≡_ {A = ℕ} 0 1 = cc in absurd (omega arith)
   lit-mode Checkout o dr e = tt
 
-  now-heats : (i : ℕ) (b : Bool) (s : State) → Next (heats i b) s
+  now-heats : (i v : ℕ) (s : State) → Next (heats i v) s
   unfolding Next
-  now-heats i b s t fit whole read k = record {
-    mode-is = mode-stands (heats i b) s t k (λ e. omega arith) (λ e. omega arith);
+  now-heats i v s t fit whole read k = record {
+    mode-is = mode-stands (heats i v) s t k (λ e. omega arith) (λ e. omega arith);
     wait-is = tt;
-    supplies-are = supplies-stand (heats i b) s t k (λ e. omega arith) (λ e. omega arith) (λ e. omega arith);
-    params-are = params-stand (heats i b) s t k (λ e. omega arith);
+    supplies-are = supplies-stand (heats i v) s t k (λ e. omega arith) (λ e. omega arith) (λ e. omega arith);
+    heaters-are = λ j lt. subst (λ y. HeaterIs j y (d ∷ h)) (sym (at-set (s .out .heaters) i (eqb v 1) j false (omega (arith, whole .heaters)))) (heater j lt (eqb j i) refl);
+    params-are = params-stand (heats i v) s t k (λ e. omega arith);
     full = k .full;
     ranged = k .ranged;
-    drive-is = drive-kept (heats i b) (s .core .drive) t (omega arith) refl (k .drive-is);
+    drive-is = drive-kept (heats i v) (s .core .drive) t (omega arith) refl (k .drive-is);
     lines-are = k .lines-are;
-    safe-is = lit-mode (s .core .mode) (with-heater (s .out) i b) (s .core .drive) fit;
+    safe-is = lit-mode (s .core .mode) (with-heater (s .out) i (eqb v 1)) (s .core .drive) fit;
     reads = read;
   }
+    where
+      heater : (j : ℕ) → j < 2 → (b : Bool) → eqb j i ≡ b → HeaterIs j (cond b (eqb v 1) (getD (s .out .heaters) j false)) (d ∷ h)
+      heater j lt true e = subst (λ x. HeaterIs x (eqb v 1) (d ∷ h)) (sym (eqb-true _ _ e)) (heater-set d h i v (t .is))
+      heater j lt false e = heater-kept d h j (getD (s .out .heaters) j false) (λ w a. let f = one-command d _ _ _ _ (a .0) (t .is .0) .1 in eqb-false _ _ e (ap (λ (l : List ℕ). getD l 0 0) f)) (λ y. omega (arith, t .entry y)) (k .heaters-are j lt)
 
   off-safe : (m : Mode) (o : Outputs) (dr : Option Drive) → Whole o → SafeIs m o dr → SafeIs m (with-supply (with-supply o 0 0) 1 0) dr
   off-safe Safe o dr w k = (λ i lt. (both-off (o .supplies) 0 i (w .supplies) lt, k .0 i lt .1), k .1)
@@ -214,6 +225,7 @@ module _ (d : Did) (h : Past) where
     mode-is = mode-stands offs s t k (λ e. omega arith) (λ e. omega arith);
     wait-is = tt;
     supplies-are = supplies-off offs (s .out) t (λ e. omega arith) whole (inl (t .is));
+    heaters-are = heaters-stand offs s t k (λ e. omega arith) (λ e. omega arith);
     params-are = params-stand offs s t k (λ e. omega arith);
     full = k .full;
     ranged = k .ranged;
@@ -229,6 +241,7 @@ module _ (d : Did) (h : Past) where
     mode-is = ago-now d h (t .is);
     wait-is = tt;
     supplies-are = supplies-stand checks s t k (λ e. omega arith) (λ e. omega arith) (λ e. omega arith);
+    heaters-are = heaters-stand checks s t k (λ e. omega arith) (λ e. omega arith);
     params-are = params-stand checks s t k (λ e. omega arith);
     full = k .full;
     ranged = k .ranged;
@@ -265,6 +278,7 @@ module _ (d : Did) (h : Past) where
         mode-is = mode-stands passes s t k (λ e. omega arith) (λ e. omega arith);
         wait-is = subst (λ w. WaitIs w (d ∷ h)) (sym (less-wait (s .core .waiting))) (wait-less d h 1 (s .core .waiting) (t .is) no-e (t .weighs) (k .wait-is));
         supplies-are = subst (λ l. (i : ℕ) → i < 2 → SupplyIs i (getD l i 0) (d ∷ h)) (sym (same .0)) (supplies-stand passes s t k (λ e. omega arith) (λ e. omega arith) (λ e. omega arith));
+        heaters-are = subst (λ l. (i : ℕ) → i < 2 → HeaterIs i (getD l i false) (d ∷ h)) (sym (same .1)) (heaters-stand passes s t k (λ e. omega arith) (λ e. omega arith));
         params-are = params-stand passes s t k (λ e. omega arith);
         full = k .full;
         ranged = k .ranged;
@@ -304,6 +318,7 @@ module _ (d : Did) (h : Past) where
         mode-is = mode-stands (acting (SetParameter i v)) s t k (λ e. omega arith) (λ e. omega arith);
         wait-is = tt;
         supplies-are = λ j lt. acting-supplies (SetParameter i v) t s k j (λ w e. let z : _≡_ {A = ℕ} 0 1 = cc in omega arith) lt;
+        heaters-are = heaters-stand (acting (SetParameter i v)) s t k (λ e. omega arith) (λ e. omega arith);
         params-are = subst (λ l. (j : ℕ) → j < 25 → ParamIs j (getD l j 0) (d ∷ h)) (sym same) (λ j lt. subst (λ y. ParamIs j y (d ∷ h)) (sym (at-set ps i v j 0 (omega (arith, k .full)))) (param j lt (eqb j i) refl));
         full = ap length same ∙ length-set ps i v ∙ k .full;
         ranged = subst (λ l. (j : ℕ) → j < 25 → (rangeAt j .lowest ≤ getD l j 0) × (getD l j 0 ≤ 255)) (sym same) (λ j lt. subst (λ y. (rangeAt j .lowest ≤ y) × (y ≤ 255)) (sym (at-set ps i v j 0 (omega (arith, k .full)))) (range j lt (eqb j i) refl));
@@ -329,6 +344,7 @@ module _ (d : Did) (h : Past) where
     mode-is = mode-stands (acting (SetSupply i v)) s t k (λ e. omega arith) (λ e. omega arith);
     wait-is = tt;
     supplies-are = λ j lt. subst (λ y. SupplyIs j y (d ∷ h)) (sym (at-set (s .out .supplies) i v j 0 (omega (arith, whole .supplies)))) (supply j lt (eqb j i) refl);
+    heaters-are = heaters-stand (acting (SetSupply i v)) s t k (λ e. omega arith) (λ e. omega arith);
     params-are = λ j lt. acting-params (SetSupply i v) t s k j (λ w e. let z : _≡_ {A = ℕ} 0 1 = cc in omega arith) lt;
     full = k .full;
     ranged = k .ranged;
@@ -347,11 +363,12 @@ module _ (d : Did) (h : Past) where
   -- ---- a drive starts
 
   -- whatever starts a drive, the rest stands
-  now-starts : (x : Deed) (l n : ℕ) (m : Mode) (w : Option Waiting) (ps : List ℕ) (me : Meters) (o : Outputs) → Told x d h → (kind x ≡ 2 → ⊥) → (kind x ≡ 3 → ⊥) → (kind x ≡ 7 → ⊥) → ((i v : ℕ) → Sets i v (d ∷ h) → ⊥) → ((i v : ℕ) → ConfirmedOrder (SetSupply i v) (d ∷ h) → ⊥) → Driven l n (d ∷ h) → SafeIs m o (Some (record { line = l; left = n })) → Whole o → ReadIs (d .shown) (st m None (Some (record { line = l; left = n })) ps me (with-line o l On)) → Now h (st m w None ps me o) → Now (d ∷ h) (st m None (Some (record { line = l; left = n })) ps me (with-line o l On))
-  now-starts x l n m w ps me o t n2 n3 n7 ns nw driven safe whole read k = record {
+  now-starts : (x : Deed) (l n : ℕ) (m : Mode) (w : Option Waiting) (ps : List ℕ) (me : Meters) (o : Outputs) → Told x d h → (kind x ≡ 1 → ⊥) → (kind x ≡ 2 → ⊥) → (kind x ≡ 3 → ⊥) → (kind x ≡ 7 → ⊥) → ((i v : ℕ) → Sets i v (d ∷ h) → ⊥) → ((i v : ℕ) → ConfirmedOrder (SetSupply i v) (d ∷ h) → ⊥) → Driven l n (d ∷ h) → SafeIs m o (Some (record { line = l; left = n })) → Whole o → ReadIs (d .shown) (st m None (Some (record { line = l; left = n })) ps me (with-line o l On)) → Now h (st m w None ps me o) → Now (d ∷ h) (st m None (Some (record { line = l; left = n })) ps me (with-line o l On))
+  now-starts x l n m w ps me o t n1 n2 n3 n7 ns nw driven safe whole read k = record {
     mode-is = mode-kept d h m (λ a. n3 (t .checked a)) (λ e. n7 (t .entry e)) (k .mode-is);
     wait-is = tt;
     supplies-are = λ i lt. supply-kept d h i (getD (o .supplies) i 0) (nw i) (λ a. n2 (t .cleared a)) (λ e. n7 (t .entry e)) (k .supplies-are i lt);
+    heaters-are = λ i lt. heater-kept d h i (getD (o .heaters) i false) (λ v a. n1 (t .heated i v a)) (λ e. n7 (t .entry e)) (k .heaters-are i lt);
     params-are = λ i lt. param-kept d h i (getD ps i 0) (ns i) (k .params-are i lt);
     full = k .full;
     ranged = k .ranged;
@@ -378,7 +395,7 @@ module _ (d : Did) (h : Past) where
   now-fire : (l n : ℕ) (m : Mode) (w : Option Waiting) (dr : Option Drive) (ps : List ℕ) (me : Meters) (o : Outputs) → Next (acting (FireRelease l n)) (st m w dr ps me o)
   unfolding Next
   now-fire l n m w (Some r) ps me o t fit whole read k = let e = fit .1 in let z : _≡_ {A = ℕ} 0 1 = cc in absurd (omega arith)
-  now-fire l n m w None ps me o t fit whole read k = now-starts (acting (FireRelease l n)) l n m w ps me o t (λ e. omega arith) (λ e. omega arith) (λ e. omega arith) (λ i v. ⊎-elim (λ c. let e = only-one (FireRelease l n) t (SetParameter i v) c in let z : _≡_ {A = ℕ} 0 1 = cc in omega arith) (λ p. t .unpowered (p .0) (p .1))) (λ i v c. let e = only-one (FireRelease l n) t (SetSupply i v) c in let z : _≡_ {A = ℕ} 0 1 = cc in omega arith)
+  now-fire l n m w None ps me o t fit whole read k = now-starts (acting (FireRelease l n)) l n m w ps me o t (λ e. omega arith) (λ e. omega arith) (λ e. omega arith) (λ e. omega arith) (λ i v. ⊎-elim (λ c. let e = only-one (FireRelease l n) t (SetParameter i v) c in let z : _≡_ {A = ℕ} 0 1 = cc in omega arith) (λ p. t .unpowered (p .0) (p .1))) (λ i v c. let e = only-one (FireRelease l n) t (SetSupply i v) c in let z : _≡_ {A = ℕ} 0 1 = cc in omega arith)
       (drive-starts d h l n (fit .2) (λ i j r. absurd (k .drive-is i j r)) (fires (t .is)) one (t .weighs))
       (lit-mode m o (Some (record { line = l; left = n })) (fit .0)) whole read k
     where
@@ -391,7 +408,7 @@ module _ (d : Did) (h : Past) where
   now-open : (m : Mode) (w : Option Waiting) (dr : Option Drive) (ps : List ℕ) (me : Meters) (o : Outputs) → Next (acting OpenDoor) (st m w dr ps me o)
   unfolding Next
   now-open m w (Some r) ps me o t fit whole read k = let e = fit .1 in let z : _≡_ {A = ℕ} 0 1 = cc in absurd (omega arith)
-  now-open m w None ps me o t fit whole read k = now-starts (acting OpenDoor) 4 (4 * getD ps 23 0) m w ps me o t (λ e. omega arith) (λ e. omega arith) (λ e. omega arith) (λ i v. ⊎-elim (λ c. let e = only-one OpenDoor t (SetParameter i v) c in let z : _≡_ {A = ℕ} 0 1 = cc in omega arith) (λ p. t .unpowered (p .0) (p .1))) (λ i v c. let e = only-one OpenDoor t (SetSupply i v) c in let z : _≡_ {A = ℕ} 0 1 = cc in omega arith)
+  now-open m w None ps me o t fit whole read k = now-starts (acting OpenDoor) 4 (4 * getD ps 23 0) m w ps me o t (λ e. omega arith) (λ e. omega arith) (λ e. omega arith) (λ e. omega arith) (λ i v. ⊎-elim (λ c. let e = only-one OpenDoor t (SetParameter i v) c in let z : _≡_ {A = ℕ} 0 1 = cc in omega arith) (λ p. t .unpowered (p .0) (p .1))) (λ i v c. let e = only-one OpenDoor t (SetSupply i v) c in let z : _≡_ {A = ℕ} 0 1 = cc in omega arith)
       (drive-starts d h 4 (4 * getD ps 23 0) (door-long (st m w None ps me o) k) (λ i j r. absurd (k .drive-is i j r)) (opens refl (t .is) (door-time (st m w None ps me o) k)) one (t .weighs))
       (lit-mode m o (Some (record { line = 4; left = 4 * getD ps 23 0 })) (fit .0)) whole read k
     where
@@ -408,7 +425,7 @@ module _ (d : Did) (h : Past) where
   now-closing : (m : Mode) (w : Option Waiting) (dr : Option Drive) (ps : List ℕ) (me : Meters) (o : Outputs) → Next closing (st m w dr ps me o)
   unfolding Next
   now-closing m w (Some r) ps me o t fit whole read k = let e = fit in let z : _≡_ {A = ℕ} 0 1 = cc in absurd (omega arith)
-  now-closing m w None ps me o t fit whole read k = now-starts closing 5 (4 * getD ps 23 0) m w ps me o t (λ e. omega arith) (λ e. omega arith) (λ e. omega arith) (no-sets closing t (λ e. omega arith)) (λ i v c. omega (arith, t .confirmed _ _ c))
+  now-closing m w None ps me o t fit whole read k = now-starts closing 5 (4 * getD ps 23 0) m w ps me o t (λ e. omega arith) (λ e. omega arith) (λ e. omega arith) (λ e. omega arith) (no-sets closing t (λ e. omega arith)) (λ i v c. omega (arith, t .confirmed _ _ c))
       (drive-starts d h 5 (4 * getD ps 23 0) (door-long (st m w None ps me o) k) (λ i j r. absurd (k .drive-is i j r)) (closes refl (t .is) (door-time (st m w None ps me o) k)) one (t .weighs))
       (closing-safe m o (4 * getD ps 23 0) (k .safe-is)) whole read k
     where
@@ -436,6 +453,7 @@ module _ (d : Did) (h : Past) where
       mode-is = mode-safe d h (t .is .0) (λ a. omega (arith, t .checked a));
       wait-is = tt;
       supplies-are = subst (λ l. (i : ℕ) → i < 2 → SupplyIs i (getD l i 0) (d ∷ h)) (sym es) (supplies-off enters o t (λ e. omega arith) whole (inr (t .is)));
+      heaters-are = subst (λ l. (i : ℕ) → i < 2 → HeaterIs i (getD l i false) (d ∷ h)) (sym eh) (λ i lt. subst (λ y. HeaterIs i y (d ∷ h)) (sym (both-off (o .heaters) false i (whole .heaters) lt)) (heater-cleared d h i (λ v a. omega (arith, t .heated i v a)) (t .is)));
       params-are = params-stand enters S t k (λ e. omega arith);
       full = k .full;
       ranged = k .ranged;
@@ -485,7 +503,7 @@ module _ (d : Did) (h : Past) where
   pub now-deed : (x : Deed) (s : State) → Told x d h → Fits x s → Whole (s .out) → ReadIs (d .shown) (apply x s) → Now h s → Now (d ∷ h) (apply x s)
   unfolding Next
   now-deed (rests w) s = now-rests w s
-  now-deed (heats i b) s = now-heats i b s
+  now-deed (heats i v) s = now-heats i v s
   now-deed offs s = now-offs s
   now-deed checks s = now-checks s
   now-deed passes s = now-passes s

@@ -64,20 +64,20 @@ module _ (p r : List ℕ) (x : Shown) (h : Past) where
 
     safe-comes : (m : Mode) (w : Option Waiting) (dr : Option Drive) (ps : List ℕ) (me : Meters) (o : Outputs) → requestOf t ≡ AskSafe → t ≡ tele 0x6602 [] → ModeIs m h
         → Comes (frame p r) x (st m w dr ps me o) (done w AskSafe (taken (st m w dr ps me o))) me h
-    safe-comes Safe w dr ps me o q e k = record { deed = rests None; same = refl; told-so = told D h (rests None) 1 (tagged _ q) tt (λ e. absurd (omega arith)) (λ e. absurd (omega arith)) (λ e. absurd (omega arith)) (λ e. absurd (omega arith)) (λ e i. absurd (k i)) (omega arith) (omega arith) refl refl; fits = tt }
-    safe-comes Checkout w dr ps me o q e k = record { deed = enters; same = refl; told-so = told D h enters 1 (tagged _ q) (inl (brings 0x6602 [] e), k) (λ e. absurd (omega arith)) (λ e. absurd (omega arith)) (λ e. absurd (omega arith)) (λ e. absurd (omega arith)) (λ e i. refl) (omega arith) (omega arith) refl refl; fits = tt }
+    safe-comes Safe w dr ps me o q e k = record { deed = rests None; same = refl; told-so = told D h (rests None) 1 (tagged _ q) tt (λ e. absurd (omega arith)) (λ e. absurd (omega arith)) (λ e. absurd (omega arith)) (λ e. absurd (omega arith)) (λ e. absurd (omega arith)) (λ e i. absurd (k i)) (omega arith) (omega arith) refl refl; fits = tt }
+    safe-comes Checkout w dr ps me o q e k = record { deed = enters; same = refl; told-so = told D h enters 1 (tagged _ q) (inl (brings 0x6602 [] e), k) (λ e. absurd (omega arith)) (λ e. absurd (omega arith)) (λ e. absurd (omega arith)) (λ e. absurd (omega arith)) (λ e. absurd (omega arith)) (λ e i. refl) (omega arith) (omega arith) refl refl; fits = tt }
 
     checkout-comes : (m : Mode) (w : Option Waiting) (dr : Option Drive) (ps : List ℕ) (me : Meters) (o : Outputs) → requestOf t ≡ AskCheckout → t ≡ tele 0x6603 []
         → Comes (frame p r) x (st m w dr ps me o) (done w AskCheckout (taken (st m w dr ps me o))) me h
-    checkout-comes Safe w dr ps me o q e = record { deed = checks; same = refl; told-so = told D h checks 2 (tagged _ q) (brings 0x6603 [] e) (λ e. absurd (omega arith)) (λ e. absurd (omega arith)) (λ e. refl) (λ e. absurd (omega arith)) (λ e i. absurd (omega arith)) (omega arith) (omega arith) refl refl; fits = tt }
-    checkout-comes Checkout w dr ps me o q e = record { deed = checks; same = refl; told-so = told D h checks 2 (tagged _ q) (brings 0x6603 [] e) (λ e. absurd (omega arith)) (λ e. absurd (omega arith)) (λ e. refl) (λ e. absurd (omega arith)) (λ e i. absurd (omega arith)) (omega arith) (omega arith) refl refl; fits = tt }
+    checkout-comes Safe w dr ps me o q e = record { deed = checks; same = refl; told-so = told D h checks 2 (tagged _ q) (brings 0x6603 [] e) (λ e. absurd (omega arith)) (λ e. absurd (omega arith)) (λ e. absurd (omega arith)) (λ e. refl) (λ e. absurd (omega arith)) (λ e i. absurd (omega arith)) (omega arith) (omega arith) refl refl; fits = tt }
+    checkout-comes Checkout w dr ps me o q e = record { deed = checks; same = refl; told-so = told D h checks 2 (tagged _ q) (brings 0x6603 [] e) (λ e. absurd (omega arith)) (λ e. absurd (omega arith)) (λ e. absurd (omega arith)) (λ e. refl) (λ e. absurd (omega arith)) (λ e i. absurd (omega arith)) (omega arith) (omega arith) refl refl; fits = tt }
 
     confirm-comes : (a b : ℕ) (m : Mode) (w : Option Waiting) (dr : Option Drive) (ps : List ℕ) (me : Meters) (o : Outputs) → requestOf t ≡ Confirm a b → t ≡ tele 0x6604 (t .words) → confirmed w (st m w dr ps me o .core) a b ≡ Ok tt → WaitIs w h
         → Comes (frame p r) x (st m w dr ps me o) (done w (Confirm a b) (taken (st m w dr ps me o))) me h
     confirm-comes a b m None dr ps me o q e good k = absurd (err-ok NothingWaits tt good)
     confirm-comes a b m (Some w) dr ps me o q e good k =
         let s = confirm-ok w (st m (Some w) dr ps me o) a b good in
-        record { deed = acting (w .order); same = refl; told-so = told D h (acting (w .order)) 3 (tagged _ q) ((t .words, brings 0x6604 (t .words) e), unwaited (w .order) (w .left) h (k .1)) (λ e. refl) (λ e. absurd (omega arith)) (λ e. absurd (omega arith)) (λ e. absurd (omega arith)) (λ e i. absurd (omega arith)) (omega arith) (omega arith) refl refl; fits = s .2 }
+        record { deed = acting (w .order); same = refl; told-so = told D h (acting (w .order)) 3 (tagged _ q) ((t .words, brings 0x6604 (t .words) e), unwaited (w .order) (w .left) h (k .1)) (λ e. refl) (λ e. absurd (omega arith)) (λ e. absurd (omega arith)) (λ e. absurd (omega arith)) (λ e. absurd (omega arith)) (λ e i. absurd (omega arith)) (omega arith) (omega arith) refl refl; fits = s .2 }
 
     undriven : (dr : Option Drive) → busy dr ≡ false → dr ≡ None
     undriven None e = refl
@@ -88,16 +88,16 @@ module _ (p r : List ℕ) (x : Shown) (h : Past) where
     out-of-safe Checkout e = refl
 
     frame-done : (q : Request) (s : State) → requestOf t ≡ q → Means q t → judged (s .core) q ≡ Ok tt → Now h s → Comes (frame p r) x s (done (s .core .waiting) q (taken s)) (s .core .meters) h
-    frame-done Nothing s q e good k = record { deed = rests None; same = refl; told-so = told D h (rests None) 8 (tagged _ q) tt (λ e. absurd (omega arith)) (λ e. absurd (omega arith)) (λ e. absurd (omega arith)) (λ e. absurd (omega arith)) (λ e i. absurd (omega arith)) (omega arith) (omega arith) refl refl; fits = tt }
+    frame-done Nothing s q e good k = record { deed = rests None; same = refl; told-so = told D h (rests None) 8 (tagged _ q) tt (λ e. absurd (omega arith)) (λ e. absurd (omega arith)) (λ e. absurd (omega arith)) (λ e. absurd (omega arith)) (λ e. absurd (omega arith)) (λ e i. absurd (omega arith)) (omega arith) (omega arith) refl refl; fits = tt }
     frame-done AskSafe s q e good k = safe-comes (s .core .mode) (s .core .waiting) (s .core .drive) (s .core .parameters) (s .core .meters) (s .out) q e (k .mode-is)
     frame-done AskCheckout s q e good k = checkout-comes (s .core .mode) (s .core .waiting) (s .core .drive) (s .core .parameters) (s .core .meters) (s .out) q e
     frame-done (Confirm a b) s q e good k = confirm-comes a b (s .core .mode) (s .core .waiting) (s .core .drive) (s .core .parameters) (s .core .meters) (s .out) q (e .0) good (k .wait-is)
-    frame-done CloseDoor s q e good k = record { deed = closing; same = refl; told-so = told D h closing 4 (tagged _ q) (brings 0x660d [] e) (λ e. absurd (omega arith)) (λ e. absurd (omega arith)) (λ e. absurd (omega arith)) (λ e. refl) (λ e i. absurd (omega arith)) (omega arith) (omega arith) refl refl; fits = undriven (s .core .drive) (allowed-ok (s .core) CloseDoor good .drive-fits) }
-    frame-done SuppliesOff s q e good k = record { deed = offs; same = refl; told-so = told D h offs 5 (tagged _ q) (brings 0x660e [] e) (λ e. absurd (omega arith)) (λ e. refl) (λ e. absurd (omega arith)) (λ e. absurd (omega arith)) (λ e i. absurd (omega arith)) (omega arith) (omega arith) refl refl; fits = tt }
-    frame-done (Heater i v) s q e good k = record { deed = heats i (eqb v 1); same = refl; told-so = told D h (heats i (eqb v 1)) 9 (tagged _ q) tt (λ e. absurd (omega arith)) (λ e. absurd (omega arith)) (λ e. absurd (omega arith)) (λ e. absurd (omega arith)) (λ e i. absurd (omega arith)) (omega arith) (omega arith) refl refl; fits = out-of-safe (s .core .mode) (allowed-ok (s .core) (Heater i v) good .mode-fits) }
+    frame-done CloseDoor s q e good k = record { deed = closing; same = refl; told-so = told D h closing 4 (tagged _ q) (brings 0x660d [] e) (λ e. absurd (omega arith)) (λ e. absurd (omega arith)) (λ e. absurd (omega arith)) (λ e. absurd (omega arith)) (λ e. refl) (λ e i. absurd (omega arith)) (omega arith) (omega arith) refl refl; fits = undriven (s .core .drive) (allowed-ok (s .core) CloseDoor good .drive-fits) }
+    frame-done SuppliesOff s q e good k = record { deed = offs; same = refl; told-so = told D h offs 5 (tagged _ q) (brings 0x660e [] e) (λ e. absurd (omega arith)) (λ e. absurd (omega arith)) (λ e. refl) (λ e. absurd (omega arith)) (λ e. absurd (omega arith)) (λ e i. absurd (omega arith)) (omega arith) (omega arith) refl refl; fits = tt }
+    frame-done (Heater i v) s q e good k = record { deed = heats i v; same = refl; told-so = told D h (heats i v) 9 (tagged _ q) (brings 0x6611 (i ∷ v ∷ []) e) (λ e. absurd (omega arith)) (λ e. refl) (λ e. absurd (omega arith)) (λ e. absurd (omega arith)) (λ e. absurd (omega arith)) (λ e i. absurd (omega arith)) (omega arith) (omega arith) refl refl; fits = out-of-safe (s .core .mode) (allowed-ok (s .core) (Heater i v) good .mode-fits) }
     frame-done (Critical o) s q e good k =
         let w : Option Waiting = Some (record { order = o; left = 2000 }) in
-        record { deed = rests w; same = refl; told-so = told D h (rests w) 10 (tagged _ q) (omega arith, ago-now D h (brings (orderOp o) (orderWords o) e, refl)) (λ e. absurd (omega arith)) (λ e. absurd (omega arith)) (λ e. absurd (omega arith)) (λ e. absurd (omega arith)) (λ e i. absurd (omega arith)) (omega arith) (omega arith) refl refl; fits = tt }
+        record { deed = rests w; same = refl; told-so = told D h (rests w) 10 (tagged _ q) (omega arith, ago-now D h (brings (orderOp o) (orderWords o) e, refl)) (λ e. absurd (omega arith)) (λ e. absurd (omega arith)) (λ e. absurd (omega arith)) (λ e. absurd (omega arith)) (λ e. absurd (omega arith)) (λ e i. absurd (omega arith)) (omega arith) (omega arith) refl refl; fits = tt }
 
   -- ---- any frame
 

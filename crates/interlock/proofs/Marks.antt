@@ -120,6 +120,7 @@ module _ (x : Mark) (y : Shown) (s : State) (h : Past) (k : Now h s) (ls : LastI
   told-mark z is w en = record {
     is = is;
     confirmed = λ op ws q. absurd (unread _ _ (q .0 .1));
+    heated = λ i v a. absurd (unread _ _ a);
     cleared = λ a. absurd (unread _ _ a);
     checked = λ a. absurd (unread _ _ a);
     closed = λ a. absurd (unread _ _ a);

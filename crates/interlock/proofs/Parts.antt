@@ -7,7 +7,7 @@ use Prim.Native.Nat.{ℕ, zero, suc, _+_, _-_, _*_, _<_, _≤_}
 use native.Mathlib.Omega.{arith}
 use lib.ListN.{length, take, getD}
 use lib.Dec.{eqb, ltb}
-use borrow.Author.Tests.{ltb-true, ltb-false}
+use borrow.Author.Tests.{ltb-true, ltb-false, eqb-true, eq-eqb, both-ways}
 use Rattle.std.specs.declared.option.Option.{Option}
 use Rattle.std.specs.declared.option.Option.the-variants.{None, Some}
 use Rattle.head.specs.declared.Mode.{Mode}
@@ -16,9 +16,9 @@ use Rattle.head.specs.declared.Order.{Order}
 use Rattle.head.specs.declared.Order.the-variants.{SetParameter, OpenDoor, SetSupply, FireRelease}
 use Rattle.head.specs.declared.Waiting.{Waiting}
 use Rattle.head.specs.declared.Drive.{Drive}
-use Rattle.interlock.specs.History.{Did, Past, Ago, weight, ticks, Accepted, IsFrame, Sets, ParameterIs, Leaves, InCheckout, EntersSafe, SwitchedOn, Starts, Runs}
+use Rattle.interlock.specs.History.{Did, Past, Ago, weight, ticks, Accepted, IsFrame, Sets, ParameterIs, Leaves, InCheckout, EntersSafe, SwitchedOn, HeatedOn, Starts, Runs}
 use Rattle.interlock.proofs.Agos.{Later, ago-none, ago-now, ago-later, ago-cases, ago-map}
-use Rattle.interlock.proofs.Orders.{Taken, GivenOrder, ConfirmedOrder, one-taken, taken-frame}
+use Rattle.interlock.proofs.Orders.{Taken, GivenOrder, ConfirmedOrder, one-command, one-taken, taken-frame}
 
 -- ---- the parts
 
@@ -35,6 +35,9 @@ WaitIs (Some w) h = (0 < w .left) × Waits (w .order) (w .left) h
 
 abbrev pub SupplyIs : ℕ → ℕ → Past → Type 0
 SupplyIs s x h = (v : ℕ) → 0 < v → (x ≡ v) ↔ SwitchedOn s v h
+
+abbrev pub HeaterIs : ℕ → Bool → Past → Type 0
+HeaterIs i b h = (b ≡ true) ↔ HeatedOn i h
 
 abbrev pub ParamIs : ℕ → ℕ → Past → Type 0
 ParamIs i x h = (v : ℕ) → (x ≡ v) ↔ ParameterIs i v h
@@ -89,6 +92,28 @@ module _ (d : Did) (h : Past) where
   supply-set s x is one v pos = (
     λ e. ago-now d h (subst (λ w. ConfirmedOrder (SetSupply s w) (d ∷ h)) e is),
     λ a. ⊎-elim (λ now. one v (now .0)) (λ l. absurd (l .goes .0 x is)) (ago-cases d h a),
+  )
+
+  -- ---- a heater
+
+  pub heater-kept : (i : ℕ) (b : Bool) → ((v : ℕ) → Accepted 0x6611 (i ∷ v ∷ []) (d ∷ h) → ⊥) → (EntersSafe (d ∷ h) → ⊥) → HeaterIs i b h → HeaterIs i b (d ∷ h)
+  heater-kept i b no-c no-e k = (
+    λ e. ago-later d h (no-c, no-e) (k .0 e),
+    λ a. ⊎-elim (λ now. absurd (no-c 1 (now .0))) (λ l. k .1 (l .was)) (ago-cases d h a),
+  )
+
+  pub heater-cleared : (i : ℕ) → ((v : ℕ) → Accepted 0x6611 (i ∷ v ∷ []) (d ∷ h) → ⊥) → EntersSafe (d ∷ h) → HeaterIs i false (d ∷ h)
+  heater-cleared i no-c is = (
+    λ e. absurd (both-ways false refl e),
+    λ a. ⊎-elim (λ now. absurd (no-c 1 (now .0))) (λ l. absurd (l .goes .1 is)) (ago-cases d h a),
+  )
+
+  pub heater-set : (i v : ℕ) → Accepted 0x6611 (i ∷ v ∷ []) (d ∷ h) → HeaterIs i (eqb v 1) (d ∷ h)
+  heater-set i v is = (
+    λ e. ago-now d h (subst (λ (w : ℕ). Accepted 0x6611 (i ∷ w ∷ []) (d ∷ h)) (eqb-true v 1 e) is),
+    λ a. ⊎-elim
+        (λ now. let f = one-command d _ _ _ _ (is .0) (now .0 .0) .1 in eq-eqb v 1 (ap (λ (l : List ℕ). getD l 1 0) f))
+        (λ l. absurd (l .goes .0 v is)) (ago-cases d h a),
   )
 
   -- ---- a parameter

@@ -184,6 +184,7 @@ kept-now d hh s before n right =
     let mode = mode-of m h (n .mode-is) in
     record {
       supply-stands-as-confirmed = λ i v lt pos. (λ e. n .supplies-are i lt v pos .0 (sym (su i lt) ∙ e), λ a. su i lt ∙ n .supplies-are i lt v pos .1 a);
+      heater-on-as-commanded = λ i lt. (λ e. n .heaters-are i lt .0 (sym (he i lt) ∙ e), λ a. he i lt ∙ n .heaters-are i lt .1 a);
       safe-supplies-off = λ no-c i lt. su i lt ∙ safe-unlit m h (s .out) dr (n .mode-is) (n .safe-is) no-c i lt .0;
       safe-heaters-off = λ no-c i lt. he i lt ∙ safe-unlit m h (s .out) dr (n .mode-is) (n .safe-is) no-c i lt .1;
       safe-lines-off = λ no-c l lt. let lt6 : l < 6 = omega arith in li l lt6 ∙ n .lines-are l lt6 ∙ safe-lines m h (s .out) dr l lt (n .mode-is) (n .safe-is) no-c;
@@ -259,6 +260,7 @@ module _ (stored : List ℕ) where
     mode-is = on-none (unframed _ _);
     wait-is = tt;
     supplies-are = λ i lt v pos. (λ e. absurd (omega (arith, e, zeros i lt .0)), λ a. absurd (on-none (λ c. unframed _ _ (c .0 .1)) a));
+    heaters-are = λ i lt. (λ e. absurd (both-ways _ (zeros i lt .1) e), λ a. absurd (on-none (unframed _ _) a));
     params-are = λ i lt. param-set on [] i (getD (restoredAll stored) i 0) (inr (stored, refl, sym (restored-at i lt))) (λ w. ⊎-elim (λ c. absurd (unframed _ _ (c .0 .1))) (λ p. let e = p .1 in let f = p .2 in let g = restored-at i lt in cc));
     full = length-map-counting (λ i. restored i (getD stored i 0)) 0 25;
     ranged = ranges;
@@ -290,6 +292,7 @@ now-metered h s me k = record {
   mode-is = k .mode-is;
   wait-is = k .wait-is;
   supplies-are = k .supplies-are;
+  heaters-are = k .heaters-are;
   params-are = k .params-are;
   full = k .full;
   ranged = k .ranged;
@@ -302,7 +305,7 @@ now-metered h s me k = record {
 event-comes : (e : Event) (x : Shown) (s : State) (h : Past) → x .fault ≡ answerOf s e → Sound h s → Comes e x s (next s e) (metersAfter e s) h
 event-comes tick x s h f k =
     let d = did tick x in
-    record { deed = passes; same = refl; told-so = told d h passes 6 refl (λ q. let e = q .2 in let z : _≡_ {A = ℕ} 0 1 = cc in omega arith) (λ e. absurd (omega arith)) (λ e. absurd (omega arith)) (λ e. absurd (omega arith)) (λ e. absurd (omega arith)) (λ e i. absurd (omega arith)) (omega arith) (omega arith) refl refl; fits = tt }
+    record { deed = passes; same = refl; told-so = told d h passes 6 refl (λ q. let e = q .2 in let z : _≡_ {A = ℕ} 0 1 = cc in omega arith) (λ e. absurd (omega arith)) (λ e. absurd (omega arith)) (λ e. absurd (omega arith)) (λ e. absurd (omega arith)) (λ e. absurd (omega arith)) (λ e i. absurd (omega arith)) (omega arith) (omega arith) refl refl; fits = tt }
 event-comes (frame p r) x s h f k = frame-comes p r x h s f (k .now)
 event-comes (sample y) x s h f k = sample-comes y x s h (k .counts) (k .now)
 event-comes (mark y) x s h f k = mark-comes y x s h f (k .last) (k .now)
@@ -377,7 +380,7 @@ ended-aside a (Some d) s k = either-aside (eqb (d .line) 5) a s _ k (record { co
 
 apply-aside : (x : Deed) (s : State) → Whole (s .out) → Aside (s .core .meters) (apply x s)
 apply-aside (rests r) s w = aside _ w
-apply-aside (heats i b) s w = aside _ (whole-heater (s .out) i b w)
+apply-aside (heats i v) s w = aside _ (whole-heater (s .out) i (eqb v 1) w)
 apply-aside offs s w = aside _ (whole-supply _ 1 0 (whole-supply (s .out) 0 0 w))
 apply-aside checks s w = aside _ w
 apply-aside passes s w = record { counts-same = refl; last-same = refl; whole-still = tick-whole (s .core .drive) (s .out) w }

@@ -213,13 +213,19 @@ InCheckout h = Ago (λ t p. Accepted 0x6603 [] p) (λ p. Leaves p → ⊥) h
 abbrev pub EntersSafe : Past → Type 0
 EntersSafe p = Leaves p × Before InCheckout p
 
--- ---- supplies and drives
+-- ---- supplies, heaters and drives
 
 -- the latest confirmed switch-on of supply s set v, with no accepted high-voltage-off and no entry into SAFE since
 abbrev pub SwitchedOn : ℕ → ℕ → Past → Type 0
 SwitchedOn s v h =
     Ago (λ t p. Confirmed 0x6610 (s ∷ v ∷ []) p)
     (λ p. ((w : ℕ) → Confirmed 0x6610 (s ∷ w ∷ []) p → ⊥) × (Accepted 0x660e [] p → ⊥) × (EntersSafe p → ⊥)) h
+
+-- the latest accepted heater command on heater i said on, with no entry into SAFE since
+abbrev pub HeatedOn : ℕ → Past → Type 0
+HeatedOn i h =
+    Ago (λ t p. Accepted 0x6611 (i ∷ 1 ∷ []) p)
+    (λ p. ((v : ℕ) → Accepted 0x6611 (i ∷ v ∷ []) p → ⊥) × (EntersSafe p → ⊥)) h
 
 -- n is the door's period by the parameters before the newest event
 abbrev pub DoorTime : ℕ → Past → Type 0

@@ -12,7 +12,7 @@ use Rattle.head.specs.State.{State}
 use Rattle.head.specs.declared.Mode.the-variants.{Checkout}
 use Rattle.interlock.specs.Events.{Event, reading, notDue}
 use Rattle.interlock.specs.Runs.{next, shownOf, stepAt, eventAt}
-use Rattle.interlock.specs.History.{Came, powered, brought, Did, Past, Ago, Always, Before, supplyReads, heaterReads, lineReads, parameterReads, lastShown, Accepted, IsFrame, PowersOn, ParameterIs, InCheckout, EntersSafe, SwitchedOn, Starts, Runs}
+use Rattle.interlock.specs.History.{Came, powered, brought, Did, Past, Ago, Always, Before, supplyReads, heaterReads, lineReads, parameterReads, lastShown, Accepted, IsFrame, PowersOn, ParameterIs, InCheckout, EntersSafe, SwitchedOn, HeatedOn, Starts, Runs}
 use Rattle.std.specs.declared.option.Option.the-variants.{None}
 use Rattle.interlock.specs.declared.step.Step.{Step}
 
@@ -33,6 +33,8 @@ pub record Confirms (op : ℕ) (ws : List ℕ) (p : Past) : Type 0 where
 pub record Kept (h : Past) : Type 0 where
   -- a supply stands at v above zero exactly when it was switched on to v, and not off since
   pub supply-stands-as-confirmed : (s v : ℕ) → s < 2 → 0 < v → (supplyReads s h ≡ v) ↔ SwitchedOn s v h
+  -- a heater is on exactly when its latest accepted command said on, with no entry into SAFE since
+  pub heater-on-as-commanded : (i : ℕ) → i < 2 → (heaterReads i h ≡ true) ↔ HeatedOn i h
   -- in SAFE both supplies and both heaters are off, and only the door-closing line may be on
   pub safe-supplies-off : (InCheckout h → ⊥) → (s : ℕ) → s < 2 → supplyReads s h ≡ 0
   pub safe-heaters-off : (InCheckout h → ⊥) → (s : ℕ) → s < 2 → heaterReads s h ≡ false
