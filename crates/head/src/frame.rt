@@ -134,8 +134,7 @@ impl<B: Board> Head<B> {
         let answer = self.core.judge(request);
         self.core.note_loss(goes_unsaid(answer, request), log);
         self.core.note_answer(answer, log);
-        let taken = self.core.waiting;
-        self.core.waiting = None;
+        let taken = self.core.waiting.take();
         if let Ok(()) = answer {
             self.carry_out(taken, request);
         }

@@ -3,7 +3,7 @@ use mathlib.Core.Path.{_≡_, refl, sym, ap, subst, _∙_}
 use mathlib.Core.Bool.{Bool, true, false, cond, _&&_}
 use mathlib.Core.List.{List, [], _∷_}
 use mathlib.Core.Logic.{_⊎_, inl, inr, ⊎-elim, _↔_}
-use Prim.Native.Nat.{ℕ, zero, suc, _+_, _-_, _<_, _≤_}
+use Prim.Native.Nat.{ℕ, zero, suc, _+_, _-_, _%_, _^_, _<_, _≤_}
 use native.Mathlib.Omega.{arith}
 use lib.ListN.{length, getD}
 use lib.Dec.{eqb, ltb, leb}
@@ -13,12 +13,13 @@ use Rattle.std.specs.declared.option.Option.the-variants.{None, Some}
 use Rattle.std.specs.declared.result.Result.the-variants.{Ok, Err}
 use Rattle.std.proofs.shelf.Counted.{getD-map-counting, length-map-counting}
 use Rattle.board.specs.Lines.{isOn}
-use Rattle.board.specs.Meaning.{Outputs, Whole, dark}
+use Rattle.board.specs.Meaning.{Outputs, Whole, with-line, dark}
 use Rattle.board.specs.declared.line_state.LineState.the-variants.{Off}
+use Rattle.codes.specs.declared.Report.{Report}
 use Rattle.head.specs.Parameters.{rangeAt, restored, restoredAll}
 use Rattle.head.specs.Requests.{orderOp}
 use Rattle.head.specs.Verdicts.{orderFirst}
-use Rattle.head.specs.State.{State, st, mode-is, meters-are}
+use Rattle.head.specs.State.{State, st, mode-is, meters-are, driven}
 use Rattle.head.specs.Effects.{darkened, ended, endedFrom, shutFrom, secured}
 use Rattle.head.specs.Events.{poweredOn, tooLarge, secondAnswer, clocked, countsAfter, counts-are, sampleTrip, markTrip}
 use Rattle.head.specs.declared.Mode.{Mode}
@@ -32,14 +33,14 @@ use Rattle.head.specs.declared.checks.Mark.{Mark}
 use Rattle.head.specs.declared.fault.Fault.the-variants.{RawCount}
 use Rattle.interlock.specs.Events.{Event, tick, frame, sample, mark, suppliesRead, heatersRead, linesRead, reading, notDue}
 use Rattle.interlock.specs.Runs.{faultOf, next, answerOf, shownOf}
-use Rattle.interlock.specs.History.{Came, powered, brought, Did, Past, Ago, Always, Out, Brings, Accepted, IsFrame, Counts, InCheckout, EntersSafe, Sets, Starts, fires, opens, closes, shuts, Runs, PowersOn, ParameterIs, SwitchedOn, lastShown, supplyReads, heaterReads, lineReads, parameterReads}
-use Rattle.interlock.specs.Promises.{Confirms, Kept, begins, came-of, Follows, begun, gone, Stands}
+use Rattle.interlock.specs.History.{Came, powered, brought, Did, Past, weight, marks, marking, restart, ticks-since-mark, Ago, Always, Out, Brings, Accepted, IsFrame, Counts, InCheckout, EntersSafe, Sets, Starts, fires, opens, closes, shuts, Runs, PowersOn, ParameterIs, SwitchedOn, lastShown, supplyReads, heaterReads, lineReads, parameterReads}
+use Rattle.interlock.specs.Promises.{Confirms, Kept, ClockCounts, begins, came-of, Follows, begun, gone, Stands}
 use Rattle.interlock.specs.declared.step.Shown.{Shown}
 use Rattle.interlock.proofs.Agos.{ago-none, ago-now, ago-cases, ago-map, always-none, always-more}
 use Rattle.interlock.proofs.Orders.{orderWords, ConfirmedOrder}
 use Rattle.interlock.proofs.Parts.{ModeIs, DriveIs, ran-on, param-set, given-one}
 use Rattle.interlock.proofs.Boards.{lit, lineOn, SafeIs, whole-line, whole-supply, whole-heater, tick-whole}
-use Rattle.interlock.proofs.Deeds.{ReadIs, Now, Deed, rests, heats, offs, checks, passes, acting, closing, enters, apply, now-deed}
+use Rattle.interlock.proofs.Deeds.{ReadIs, Now, Deed, rests, heats, offs, checks, passes, acting, closing, enters, kind, lasts, apply, now-deed}
 use Rattle.interlock.proofs.Comes.{did, told, Comes, all-below, unpowered}
 use Rattle.interlock.proofs.Frames.{Rightly, frame-comes, frame-right}
 use Rattle.interlock.proofs.Counts.{count-kept, count-none}
@@ -361,29 +362,30 @@ event-last (mark y) x s h f k = go (tooLarge y) f
 pub record Aside (a : Meters) (t : State) : Type 0 where
   pub counts-same : t .core .meters .counts ≡ a .counts
   pub last-same : t .core .meters .last ≡ a .last
+  pub time-same : t .core .meters .time ≡ a .time
   pub whole-still : Whole (t .out)
 
 aside : (t : State) → Whole (t .out) → Aside (t .core .meters) t
-aside t w = record { counts-same = refl; last-same = refl; whole-still = w }
+aside t w = record { counts-same = refl; last-same = refl; time-same = refl; whole-still = w }
 
 either-aside : (b : Bool) (a : Meters) (x y : State) → Aside a x → Aside a y → Aside a (cond b x y)
 either-aside true a x y p q = p
 either-aside false a x y p q = q
 
 shut-aside : (a : Meters) (dr : Option Drive) (s : State) → Aside a s → Aside a (shutFrom dr s)
-shut-aside a None s k = either-aside (eqb (getD (s .core .parameters) 24 0) 1) a _ s (record { counts-same = k .counts-same; last-same = k .last-same; whole-still = whole-line (s .out) 5 _ (k .whole-still) }) k
+shut-aside a None s k = either-aside (eqb (getD (s .core .parameters) 24 0) 1) a _ s (record { counts-same = k .counts-same; last-same = k .last-same; time-same = k .time-same; whole-still = whole-line (s .out) 5 _ (k .whole-still) }) k
 shut-aside a (Some d) s k = k
 
 ended-aside : (a : Meters) (dr : Option Drive) (s : State) → Aside a s → Aside a (endedFrom dr s)
 ended-aside a None s k = k
-ended-aside a (Some d) s k = either-aside (eqb (d .line) 5) a s _ k (record { counts-same = k .counts-same; last-same = k .last-same; whole-still = whole-line (s .out) (d .line) Off (k .whole-still) })
+ended-aside a (Some d) s k = either-aside (eqb (d .line) 5) a s _ k (record { counts-same = k .counts-same; last-same = k .last-same; time-same = k .time-same; whole-still = whole-line (s .out) (d .line) Off (k .whole-still) })
 
 apply-aside : (x : Deed) (s : State) → Whole (s .out) → Aside (s .core .meters) (apply x s)
 apply-aside (rests r) s w = aside _ w
 apply-aside (heats i v) s w = aside _ (whole-heater (s .out) i (eqb v 1) w)
 apply-aside offs s w = aside _ (whole-supply _ 1 0 (whole-supply (s .out) 0 0 w))
 apply-aside checks s w = aside _ w
-apply-aside passes s w = record { counts-same = refl; last-same = refl; whole-still = tick-whole (s .core .drive) (s .out) w }
+apply-aside passes s w = record { counts-same = refl; last-same = refl; time-same = refl; whole-still = tick-whole (s .core .drive) (s .out) w }
 apply-aside (acting (SetParameter i v)) s w = aside _ w
 apply-aside (acting OpenDoor) s w = aside _ (whole-line (s .out) 4 _ w)
 apply-aside (acting (SetSupply i v)) s w = aside _ (whole-supply (s .out) i v w)
@@ -416,5 +418,99 @@ pub every : {h : Past} {s : State} → Follows h s → Sound h s
 every (begun stored) = sound-on stored
 every (gone {h} {s} e r) = sound-more e h s (every r)
 
+-- ---- the clock
+
+-- only the passing of a tick moves the tick number
+same-tick : (x : Deed) (s : State) → (kind x ≡ 4 → ⊥) → apply x s .core .meters .tick ≡ s .core .meters .tick
+same-tick (rests r) s n = refl
+same-tick (heats i v) s n = refl
+same-tick offs s n = refl
+same-tick checks s n = refl
+same-tick passes s n = absurd (n refl)
+same-tick (acting (SetParameter i v)) s n = refl
+same-tick (acting OpenDoor) s n = refl
+same-tick (acting (SetSupply i v)) s n = refl
+same-tick (acting (FireRelease l m)) s n = refl
+same-tick closing s n = refl
+same-tick enters s n = shut-tick (ended (darkened (mode-is Safe s)) .core .drive) (ended (darkened (mode-is Safe s))) ∙ ended-tick (s .core .drive) (darkened (mode-is Safe s))
+  where
+    either-tick : (b : Bool) (x y : State) → x .core .meters .tick ≡ y .core .meters .tick → cond b x y .core .meters .tick ≡ y .core .meters .tick
+    either-tick true x y e = e
+    either-tick false x y e = refl
+
+    shut-tick : (dr : Option Drive) (z : State) → shutFrom dr z .core .meters .tick ≡ z .core .meters .tick
+    shut-tick None z = either-tick (eqb (getD (z .core .parameters) 24 0) 1) _ z refl
+    shut-tick (Some d) z = refl
+
+    ended-tick : (dr : Option Drive) (z : State) → endedFrom dr z .core .meters .tick ≡ z .core .meters .tick
+    ended-tick None z = refl
+    ended-tick (Some d) z = go (eqb (d .line) 5)
+      where
+        go : (b : Bool) → cond b z (driven None (with-line (z .out) (d .line) Off) z) .core .meters .tick ≡ z .core .meters .tick
+        go true = refl
+        go false = refl
+
+passing : (x : Deed) → kind x ≡ 4 → lasts x ≡ 1
+passing (rests r) e = absurd (omega arith)
+passing (heats i v) e = absurd (omega arith)
+passing offs e = absurd (omega arith)
+passing checks e = absurd (omega arith)
+passing passes e = refl
+passing (acting o) e = absurd (omega arith)
+passing closing e = absurd (omega arith)
+passing enters e = absurd (omega arith)
+
+module _ (e : Event) (h : Past) (s : State) (k : Sound h s) where
+  comes : Comes e (shownOf s e) s (next s e) (metersAfter e s) h
+  comes = event-comes e (shownOf s e) s h refl k
+
+  time-after : next s e .core .meters .time ≡ metersAfter e s .time
+  time-after = ap (λ (t : State). t .core .meters .time) (comes .same) ∙ apply-aside (comes .deed) (meters-are (metersAfter e s) s) (k .whole) .time-same
+
+  tick-after : weight (brought e) ≡ 0 → next s e .core .meters .tick ≡ metersAfter e s .tick
+  tick-after z = ap (λ (t : State). t .core .meters .tick) (comes .same) ∙ same-tick (comes .deed) (meters-are (metersAfter e s) s) (λ f. omega (arith, passing (comes .deed) f, comes .told-so .weighs, z))
+
+trip-time : (t : Option Check) (z : State) → tripMeters t z .time ≡ z .core .meters .time
+trip-time None z = refl
+trip-time (Some c) z = refl
+
+trip-tick : (t : Option Check) (z : State) → tripMeters t z .tick ≡ z .core .meters .tick
+trip-tick None z = refl
+trip-tick (Some c) z = refl
+
+mark-meters : (b : Bool) (x : Mark) (s : State) → (cond b (s .core .meters) (tripMeters (markTrip x (s .core)) (clocked x s)) .time ≡ cond b (s .core .meters .time) ((s .core .meters .time + 1) % 2 ^ 32)) × (cond b (s .core .meters) (tripMeters (markTrip x (s .core)) (clocked x s)) .tick ≡ cond b (s .core .meters .tick) 0)
+mark-meters true x s = (refl, refl)
+mark-meters false x s = (trip-time (markTrip x (s .core)) (clocked x s), trip-tick (markTrip x (s .core)) (clocked x s))
+
+mark-counts : (b : Bool) (x : Mark) (f : Option Report) (n m : ℕ) → f ≡ faultOf (cond b (Err RawCount) (Ok tt)) → (marking (brought (mark x)) f + n ≡ cond b n (n + 1)) × (restart (marking (brought (mark x)) f) (0 + m) ≡ cond b m 0)
+mark-counts true x f n m e = (ap (λ (g : Option Report). marking (brought (mark x)) g + n) e ∙ omega arith, ap (λ (g : Option Report). restart (marking (brought (mark x)) g) (0 + m)) e ∙ omega arith)
+mark-counts false x f n m e = (ap (λ (g : Option Report). marking (brought (mark x)) g + n) e ∙ omega arith, ap (λ (g : Option Report). restart (marking (brought (mark x)) g) (0 + m)) e)
+
+mark-clock : (b : Bool) (t t′ u u′ n n′ m m′ : ℕ) → t′ ≡ cond b t ((t + 1) % 2 ^ 32) → u′ ≡ cond b u 0 → n′ ≡ cond b n (n + 1) → m′ ≡ cond b m 0 → t ≡ (1000000 + n) % 2 ^ 32 → u ≡ m % 200 → (t′ ≡ (1000000 + n′) % 2 ^ 32) × (u′ ≡ m′ % 200)
+mark-clock true t t′ u u′ n n′ m m′ et eu en em p q = (omega arith, omega arith)
+mark-clock false t t′ u u′ n n′ m m′ et eu en em p q = (omega arith, omega arith)
+
+clock-more : (e : Event) (h : Past) (s : State) → Sound h s → ClockCounts h s → ClockCounts (came-of s e ∷ h) (next s e)
+clock-more tick h s k c = record { time-counts-marks = omega (arith, c .time-counts-marks); tick-number-counts-ticks = omega (arith, c .tick-number-counts-ticks) }
+clock-more (frame p r) h s k c = record {
+  time-counts-marks = omega (arith, time-after (frame p r) h s k, c .time-counts-marks);
+  tick-number-counts-ticks = omega (arith, tick-after (frame p r) h s k refl, c .tick-number-counts-ticks);
+}
+clock-more (sample x) h s k c = record {
+  time-counts-marks = omega (arith, time-after (sample x) h s k, trip-time (sampleTrip x s) (counts-are (countsAfter x s) s), c .time-counts-marks);
+  tick-number-counts-ticks = omega (arith, tick-after (sample x) h s k refl, trip-tick (sampleTrip x s) (counts-are (countsAfter x s) s), c .tick-number-counts-ticks);
+}
+clock-more (mark x) h s k c =
+    let b = tooLarge x in
+    let me = mark-meters b x s in
+    let co = mark-counts b x (faultOf (secondAnswer x)) (marks h) (ticks-since-mark h) refl in
+    let z = mark-clock b (s .core .meters .time) (next s (mark x) .core .meters .time) (s .core .meters .tick) (next s (mark x) .core .meters .tick) (marks h) (marks (came-of s (mark x) ∷ h)) (ticks-since-mark h) (ticks-since-mark (came-of s (mark x) ∷ h))
+    (time-after (mark x) h s k ∙ me .0) (tick-after (mark x) h s k refl ∙ me .1) (co .0) (co .1) (c .time-counts-marks) (c .tick-number-counts-ticks) in
+    record { time-counts-marks = z .0; tick-number-counts-ticks = z .1 }
+
+clock : {h : Past} {s : State} → Follows h s → ClockCounts h s
+clock (begun stored) = record { time-counts-marks = refl; tick-number-counts-ticks = refl }
+clock (gone {h} {s} e f) = clock-more e h s (every f) (clock f)
+
 pub stands : {h : Past} {s : State} → Follows h s → Stands h s
-stands f = record { follows = f; interlocks = every f .kept }
+stands f = record { follows = f; interlocks = every f .kept; clock = clock f }

@@ -9,8 +9,10 @@ use mathlib.Core.List.{List, [], _∷_}
 use mathlib.Core.Logic.{_⊎_}
 use Prim.Native.Nat.{ℕ, zero, suc, _+_, _*_, _<_, _≤_, max}
 use lib.ListN.{length, take, drop, getD}
-use Rattle.std.specs.declared.option.Option.the-variants.{None}
+use Rattle.std.specs.declared.option.Option.{Option}
+use Rattle.std.specs.declared.option.Option.the-variants.{None, Some}
 use Rattle.std.specs.declared.result.Result.the-variants.{Ok}
+use Rattle.codes.specs.declared.Report.{Report}
 use Rattle.telecommand.specs.Links.{reads}
 use Rattle.head.specs.Parameters.{restored}
 use Rattle.head.specs.Checks.{out, masked, rate, warm}
@@ -45,6 +47,31 @@ weight (brought (mark x)) = 0
 abbrev pub ticks : Past → ℕ
 ticks [] = 0
 ticks (d ∷ h) = weight (d .came) + ticks h
+
+abbrev accepted : Option Report → ℕ → ℕ
+accepted None n = n
+accepted (Some fault) n = 0
+
+abbrev pub marking : Came → Option Report → ℕ
+marking (powered stored) fault = 0
+marking (brought tick) fault = 0
+marking (brought (frame p r)) fault = 0
+marking (brought (sample x)) fault = 0
+marking (brought (mark x)) fault = accepted fault 1
+
+-- how many second marks were accepted
+abbrev pub marks : Past → ℕ
+marks [] = 0
+marks (d ∷ h) = marking (d .came) (d .shown .fault) + marks h
+
+abbrev pub restart : ℕ → ℕ → ℕ
+restart zero n = n
+restart (suc m) n = 0
+
+-- how many ticks came since the latest accepted second mark, or since power-on
+abbrev pub ticks-since-mark : Past → ℕ
+ticks-since-mark [] = 0
+ticks-since-mark (d ∷ h) = restart (marking (d .came) (d .shown .fault)) (weight (d .came) + ticks-since-mark h)
 
 -- some events ago P held, of the ticks since and of the past up to then, and Q held after each event since
 pub record Ago (P : ℕ → Past → Type 0) (Q : Past → Type 0) (h : Past) : Type 0 where

@@ -3,7 +3,7 @@ use mathlib.Core.Path.{_≡_}
 use mathlib.Core.Bool.{true, false}
 use mathlib.Core.List.{List, [], _∷_}
 use mathlib.Core.Logic.{_⊎_, _↔_}
-use Prim.Native.Nat.{ℕ, zero, suc, _-_, _<_}
+use Prim.Native.Nat.{ℕ, zero, suc, _+_, _-_, _%_, _^_, _<_}
 use lib.ListN.{length}
 use Rattle.telecommand.specs.Packet.{word}
 use Rattle.head.specs.Requests.{marked}
@@ -12,7 +12,7 @@ use Rattle.head.specs.State.{State}
 use Rattle.head.specs.declared.Mode.the-variants.{Checkout}
 use Rattle.interlock.specs.Events.{Event, reading, notDue}
 use Rattle.interlock.specs.Runs.{next, shownOf, stepAt, eventAt}
-use Rattle.interlock.specs.History.{Came, powered, brought, Did, Past, Ago, Always, Before, supplyReads, heaterReads, lineReads, parameterReads, lastShown, Accepted, IsFrame, PowersOn, ParameterIs, InCheckout, EntersSafe, SwitchedOn, HeatedOn, Starts, Runs}
+use Rattle.interlock.specs.History.{Came, powered, brought, Did, Past, marks, ticks-since-mark, Ago, Always, Before, supplyReads, heaterReads, lineReads, parameterReads, lastShown, Accepted, IsFrame, PowersOn, ParameterIs, InCheckout, EntersSafe, SwitchedOn, HeatedOn, Starts, Runs}
 use Rattle.std.specs.declared.option.Option.the-variants.{None}
 use Rattle.interlock.specs.declared.step.Step.{Step}
 
@@ -71,10 +71,16 @@ abbrev pub continued : Past → ℕ → List Step → Past
 continued h zero steps = h
 continued h (suc n) steps = record { came = brought (eventAt steps n); shown = stepAt steps n .shown } ∷ continued h n steps
 
+-- the head's clock counts what came: time the accepted second marks, the tick number the ticks since the latest
+pub record ClockCounts (h : Past) (s : State) : Type 0 where
+  pub time-counts-marks : s .core .meters .time ≡ (1000000 + marks h) % 2 ^ 32
+  pub tick-number-counts-ticks : s .core .meters .tick ≡ ticks-since-mark h % 200
+
 -- a history that the rules lead through, with the interlocks kept after each of its events
 pub record Stands (h : Past) (s : State) : Type 0 where
   pub follows : Follows h s
   pub interlocks : Always Kept h
+  pub clock : ClockCounts h s
 
 -- whatever history led to the state before, it goes on with the steps to the state after, and the interlocks are kept throughout
 abbrev pub Promise : List Step → State → State → Type 0
