@@ -16,8 +16,8 @@ use Rattle.head.specs.Rolls.{Roll, Log}
 use Rattle.interlock.specs.Events.{Event, eventOf}
 use Rattle.interlock.specs.Runs.{next, shownOf, logAfter, ratesAfter, absent, stepAt, eventAt, stateAfter, logAfterAll, ratesAfterAll, Ran}
 use Rattle.interlock.specs.History.{brought, Did, Past}
-use Rattle.interlock.specs.Promises.{came-of, Follows, gone, continued, Stands}
-use Rattle.interlock.proofs.Whole.{stands}
+use Rattle.interlock.specs.Promises.{came-of, Follows, gone, continued, Stands, RatesHeld}
+use Rattle.interlock.proofs.Whole.{every, stands, rates-step, last-raw}
 use Rattle.interlock.specs.declared.step.Event.{Event as Lent}
 use Rattle.interlock.specs.declared.step.Shown.{Shown}
 use Rattle.interlock.specs.declared.step.Step.{Step}
@@ -64,15 +64,29 @@ abbrev done : Event → Shown → Did
 done e x = record { came = brought e; shown = x }
 
 module _ (n : ℕ) (before after : List Step) (s t : State) (l m : Log) (r q : Roll ℕ) (ran : Ran n before after s t l m r q) (h : Past) (led : Follows h s) where
+  -- step i, as the rules bring it, is step i as it shows
+  same-did : (i : ℕ) → i < n → came-of (stateAfter s i before) (eventAt before i) ≡ done (eventAt after i) (stepAt after i .shown)
+  same-did i lt =
+      let u = stateAfter s i before in
+      ap (λ (y : Event). done y (shownOf u (eventAt before i))) (ap eventOf (sym (ran .events i))) ∙ ap (done (eventAt after i)) (sym (ran .shows i lt))
+
   goes-on : (i : ℕ) → i ≤ n → Follows (continued h i after) (stateAfter s i before)
   goes-on zero le = led
   goes-on (suc i) le =
+      subst (λ (d : Did). Follows (d ∷ continued h i after) (next (stateAfter s i before) (eventAt before i))) (same-did i (omega arith)) (gone (eventAt before i) (goes-on i (omega arith)))
+
+  rates-on : (i : ℕ) → i ≤ n → RatesHeld h r → RatesHeld (continued h i after) (ratesAfterAll s i before r)
+  rates-on zero le k = k
+  rates-on (suc i) le k =
+      let f = goes-on i (omega arith) in
       let u = stateAfter s i before in
-      let rest = continued h i after in
-      let e : eventAt before i ≡ eventAt after i = ap eventOf (sym (ran .events i)) in
-      let x : shownOf u (eventAt before i) ≡ stepAt after i .shown = sym (ran .shows i (omega arith)) in
-      let same : came-of u (eventAt before i) ≡ done (eventAt after i) (stepAt after i .shown) = ap (λ (y : Event). done y (shownOf u (eventAt before i))) e ∙ ap (done (eventAt after i)) x in
-      subst (λ (d : Did). Follows (d ∷ rest) (next u (eventAt before i))) same (gone (eventAt before i) (goes-on i (omega arith)))
+      let q = ratesAfterAll s i before r in
+      subst (λ (d : Did). RatesHeld (d ∷ continued h i after) (ratesAfter u (eventAt before i) q)) (same-did i (omega arith))
+      (rates-step (eventAt before i) (continued h i after) u q (every f) (last-raw f) (rates-on i (omega arith) k) .rates-more)
+
+  pub run-rates : n ≡ length after → RatesHeld h r → RatesHeld (continued h (length after) after) q
+  run-rates e k =
+      subst (λ (m : ℕ). RatesHeld (continued h m after) q) e (subst (RatesHeld (continued h n after)) (sym (ran .rated)) (rates-on n (omega arith) k))
 
   pub run-stands : n ≡ length after → Stands (continued h (length after) after) t
   run-stands e =

@@ -5,13 +5,16 @@ use mathlib.Core.List.{List, [], _∷_}
 use mathlib.Core.Logic.{_⊎_, inl, inr, ⊎-elim, _↔_}
 use Prim.Native.Nat.{ℕ, zero, suc, _+_, _-_, _%_, _^_, _<_, _≤_}
 use native.Mathlib.Omega.{arith}
-use lib.ListN.{length, getD}
+use lib.ListN.{length, getD, take}
 use lib.Dec.{eqb, ltb, leb}
 use borrow.Author.Tests.{eqb-true, eqb-false, eq-eqb, ne-eqb, both-ways, leb-true, ltb-true}
 use Rattle.std.specs.declared.option.Option.{Option}
 use Rattle.std.specs.declared.option.Option.the-variants.{None, Some}
 use Rattle.std.specs.declared.result.Result.the-variants.{Ok, Err}
 use Rattle.std.proofs.shelf.Counted.{getD-map-counting, length-map-counting}
+use Rattle.std.proofs.shelf.Lists.{take-take}
+use Rattle.head.specs.Checks.{rateAt}
+use Rattle.head.specs.Rolls.{Roll, added}
 use Rattle.board.specs.Lines.{isOn}
 use Rattle.board.specs.Meaning.{Outputs, Whole, with-line, dark}
 use Rattle.board.specs.declared.line_state.LineState.the-variants.{Off}
@@ -21,7 +24,7 @@ use Rattle.head.specs.Requests.{orderOp}
 use Rattle.head.specs.Verdicts.{orderFirst}
 use Rattle.head.specs.State.{State, st, mode-is, meters-are, driven}
 use Rattle.head.specs.Effects.{darkened, ended, endedFrom, shutFrom, secured}
-use Rattle.head.specs.Events.{poweredOn, tooLarge, secondAnswer, clocked, countsAfter, counts-are, sampleTrip, markTrip}
+use Rattle.head.specs.Events.{poweredOn, tooLarge, secondAnswer, clocked, countsAfter, counts-are, sampleTrip, rateThen, markTrip}
 use Rattle.head.specs.declared.Mode.{Mode}
 use Rattle.head.specs.declared.Mode.the-variants.{Safe, Checkout}
 use Rattle.head.specs.declared.Order.{Order}
@@ -32,9 +35,9 @@ use Rattle.head.specs.declared.checks.Check.{Check}
 use Rattle.head.specs.declared.checks.Mark.{Mark}
 use Rattle.head.specs.declared.fault.Fault.the-variants.{RawCount}
 use Rattle.interlock.specs.Events.{Event, tick, frame, sample, mark, suppliesRead, heatersRead, linesRead, reading, notDue}
-use Rattle.interlock.specs.Runs.{faultOf, next, answerOf, shownOf}
-use Rattle.interlock.specs.History.{Came, powered, brought, Did, Past, weight, marks, marking, restart, ticks-since-mark, Ago, Always, Out, Brings, Accepted, IsFrame, Counts, InCheckout, EntersSafe, Sets, Starts, fires, opens, closes, shuts, Runs, PowersOn, ParameterIs, SwitchedOn, lastShown, supplyReads, heaterReads, lineReads, parameterReads}
-use Rattle.interlock.specs.Promises.{Confirms, Kept, ClockCounts, begins, came-of, Follows, begun, gone, Stands}
+use Rattle.interlock.specs.Runs.{faultOf, next, answerOf, shownOf, ratesAfter}
+use Rattle.interlock.specs.History.{Came, powered, brought, Did, Past, weight, marks, marking, restart, ticks-since-mark, raws, newest, ratesOf, Ago, Always, Out, Brings, Accepted, IsFrame, Counts, InCheckout, EntersSafe, Sets, Starts, fires, opens, closes, shuts, Runs, PowersOn, ParameterIs, SwitchedOn, lastShown, supplyReads, heaterReads, lineReads, parameterReads}
+use Rattle.interlock.specs.Promises.{Confirms, Kept, ClockCounts, RatesHeld, begins, came-of, Follows, begun, gone, Stands}
 use Rattle.interlock.specs.declared.step.Shown.{Shown}
 use Rattle.interlock.proofs.Agos.{ago-none, ago-now, ago-cases, ago-map, always-none, always-more}
 use Rattle.interlock.proofs.Orders.{orderWords, ConfirmedOrder}
@@ -514,3 +517,39 @@ clock (gone {h} {s} e f) = clock-more e h s (every f) (clock f)
 
 pub stands : {h : Past} {s : State} → Follows h s → Stands h s
 stands f = record { follows = f; interlocks = every f .kept; clock = clock f }
+
+-- ---- the rates
+
+module _ (e : Event) (h : Past) (s : State) (k : Sound h s) where
+  last-after : next s e .core .meters .last ≡ metersAfter e s .last
+  last-after = ap (λ (t : State). t .core .meters .last) (comes e h s k .same) ∙ apply-aside (comes e h s k .deed) (meters-are (metersAfter e s) s) (k .whole) .last-same
+
+take-again : {X : Type 0} (n : ℕ) (x : X) (l : List X) → take n (x ∷ take n l) ≡ take n (x ∷ l)
+take-again zero x l = refl
+take-again (suc n) x l = ap (λ (z : List _). x ∷ z) (take-take n (suc n) l (omega arith))
+
+-- one event more, for the previous raw count and for the rates
+pub record RatesMore (e : Event) (h : Past) (s : State) (l : Roll ℕ) : Type 0 where
+  pub last-more : next s e .core .meters .last ≡ newest (raws (came-of s e ∷ h))
+  pub rates-more : RatesHeld (came-of s e ∷ h) (ratesAfter s e l)
+
+pub rates-step : (e : Event) (h : Past) (s : State) (l : Roll ℕ) → Sound h s → s .core .meters .last ≡ newest (raws h) → RatesHeld h l → RatesMore e h s l
+rates-step tick h s l k e r = record { last-more = e; rates-more = r }
+rates-step (frame p q) h s l k e r = record { last-more = last-after (frame p q) h s k ∙ e; rates-more = r }
+rates-step (sample x) h s l k e r = record { last-more = last-after (sample x) h s k ∙ trip-last (sampleTrip x s) (counts-are (countsAfter x s) s) ∙ e; rates-more = r }
+rates-step (mark x) h s l k e r = record { last-more = last-after (mark x) h s k ∙ go (tooLarge x); rates-more = held (tooLarge x) }
+  where
+    go : (b : Bool) → cond b (s .core .meters) (tripMeters (markTrip x (s .core)) (clocked x s)) .last ≡ newest (raws (did (mark x) (reading (faultOf (cond b (Err RawCount) (Ok tt))) notDue s) ∷ h))
+    go true = e
+    go false = trip-last (markTrip x (s .core)) (clocked x s)
+
+    held : (b : Bool) → RatesHeld (did (mark x) (reading (faultOf (cond b (Err RawCount) (Ok tt))) notDue s) ∷ h) (cond b l (added (rateThen x (s .core)) l))
+    held true = r
+    held false =
+        ap (λ (z : List ℕ). take (l .room) (rateThen x (s .core) ∷ z)) r
+        ∙ take-again (l .room) (rateThen x (s .core)) (ratesOf (raws h))
+        ∙ ap (λ (o : Option ℕ). take (l .room) (rateAt o (x .raw) ∷ ratesOf (raws h))) e
+
+pub last-raw : {h : Past} {s : State} → Follows h s → s .core .meters .last ≡ newest (raws h)
+last-raw (begun stored) = refl
+last-raw (gone {h} {s} e f) = rates-step e h s (record { room = 0; items = [] }) (every f) (last-raw f) refl .last-more

@@ -15,7 +15,7 @@ use Rattle.std.specs.declared.result.Result.the-variants.{Ok}
 use Rattle.codes.specs.declared.Report.{Report}
 use Rattle.telecommand.specs.Links.{reads}
 use Rattle.head.specs.Parameters.{restored}
-use Rattle.head.specs.Checks.{out, masked, rate, warm}
+use Rattle.head.specs.Checks.{out, masked, rate, rateAt, warm}
 use Rattle.head.specs.declared.checks.Sample.{Sample}
 use Rattle.head.specs.declared.checks.Mark.{Mark}
 use Rattle.interlock.specs.Events.{Event, tick, frame, sample, mark, unseen}
@@ -72,6 +72,29 @@ restart (suc m) n = 0
 abbrev pub ticks-since-mark : Past → ℕ
 ticks-since-mark [] = 0
 ticks-since-mark (d ∷ h) = restart (marking (d .came) (d .shown .fault)) (weight (d .came) + ticks-since-mark h)
+
+abbrev rawOf : Came → Option Report → List ℕ → List ℕ
+rawOf (powered stored) fault rest = rest
+rawOf (brought tick) fault rest = rest
+rawOf (brought (frame p r)) fault rest = rest
+rawOf (brought (sample x)) fault rest = rest
+rawOf (brought (mark x)) None rest = x .raw ∷ rest
+rawOf (brought (mark x)) (Some fault) rest = rest
+
+-- the raw counts of the accepted second marks, newest first
+abbrev pub raws : Past → List ℕ
+raws [] = []
+raws (d ∷ h) = rawOf (d .came) (d .shown .fault) (raws h)
+
+-- the newest of some counts, or none
+abbrev pub newest : List ℕ → Option ℕ
+newest [] = None
+newest (n ∷ rest) = Some n
+
+-- the rate of each raw count after the one before it, newest first; 0 for the first of all
+abbrev pub ratesOf : List ℕ → List ℕ
+ratesOf [] = []
+ratesOf (n ∷ rest) = rateAt (newest rest) n ∷ ratesOf rest
 
 -- some events ago P held, of the ticks since and of the past up to then, and Q held after each event since
 pub record Ago (P : ℕ → Past → Type 0) (Q : Past → Type 0) (h : Past) : Type 0 where

@@ -4,15 +4,16 @@ use mathlib.Core.Bool.{true, false}
 use mathlib.Core.List.{List, [], _∷_}
 use mathlib.Core.Logic.{_⊎_, _↔_}
 use Prim.Native.Nat.{ℕ, zero, suc, _+_, _-_, _%_, _^_, _<_}
-use lib.ListN.{length}
+use lib.ListN.{length, take}
 use Rattle.telecommand.specs.Packet.{word}
 use Rattle.head.specs.Requests.{marked}
 use Rattle.head.specs.Events.{poweredOn}
+use Rattle.head.specs.Rolls.{Roll}
 use Rattle.head.specs.State.{State}
 use Rattle.head.specs.declared.Mode.the-variants.{Checkout}
 use Rattle.interlock.specs.Events.{Event, reading, notDue}
 use Rattle.interlock.specs.Runs.{next, shownOf, stepAt, eventAt}
-use Rattle.interlock.specs.History.{Came, powered, brought, Did, Past, marks, ticks-since-mark, Ago, Always, Before, supplyReads, heaterReads, lineReads, parameterReads, lastShown, Accepted, IsFrame, PowersOn, ParameterIs, InCheckout, EntersSafe, SwitchedOn, HeatedOn, Starts, Runs}
+use Rattle.interlock.specs.History.{Came, powered, brought, Did, Past, marks, ticks-since-mark, raws, ratesOf, Ago, Always, Before, supplyReads, heaterReads, lineReads, parameterReads, lastShown, Accepted, IsFrame, PowersOn, ParameterIs, InCheckout, EntersSafe, SwitchedOn, HeatedOn, Starts, Runs}
 use Rattle.std.specs.declared.option.Option.the-variants.{None}
 use Rattle.interlock.specs.declared.step.Step.{Step}
 
@@ -76,6 +77,10 @@ pub record ClockCounts (h : Past) (s : State) : Type 0 where
   pub time-counts-marks : s .core .meters .time ≡ (1000000 + marks h) % 2 ^ 32
   pub tick-number-counts-ticks : s .core .meters .tick ≡ ticks-since-mark h % 200
 
+-- the rates held are those of the accepted second marks, newest first, cut at the room for them
+abbrev pub RatesHeld : Past → Roll ℕ → Type 0
+RatesHeld h rates = rates .items ≡ take (rates .room) (ratesOf (raws h))
+
 -- a history that the rules lead through, with the interlocks kept after each of its events
 pub record Stands (h : Past) (s : State) : Type 0 where
   pub follows : Follows h s
@@ -85,3 +90,7 @@ pub record Stands (h : Past) (s : State) : Type 0 where
 -- whatever history led to the state before, it goes on with the steps to the state after, and the interlocks are kept throughout
 abbrev pub Promise : List Step → State → State → Type 0
 Promise steps s t = (h : Past) → Follows h s → Stands (continued h (length steps) steps) t
+
+-- and rates that were those of the history are so after the steps
+abbrev pub RatesPromise : List Step → State → Roll ℕ → Roll ℕ → Type 0
+RatesPromise steps s before after = (h : Past) → Follows h s → RatesHeld h before → RatesHeld (continued h (length steps) steps) after
