@@ -65,6 +65,7 @@ pub record Passed (c : Core) (q : Request) : Type 0 where
   pub mode-fits : (inSafe (c .mode) && barred q) ≡ false
   pub first-fits : firstFits q ≡ true
   pub second-fits : secondFits (c .parameters) q ≡ true
+  pub timer-fits : (isCheckout q && timerBars c) ≡ false
   pub drive-fits : (isDrive q && busy (c .drive)) ≡ false
 
 pub allowed-ok : (c : Core) (q : Request) → allowed c q ≡ Ok tt → Passed c q
@@ -78,7 +79,7 @@ allowed-ok c q e =
     let d = passed (not (secondFits (c .parameters) q)) (OutOfRange 9 (opOf q)) timer tt (b .1) in
     let f = passed (isCheckout q && timerBars c) TimerRuns drive tt (d .1) in
     let g = passed (isDrive q && busy (c .drive)) (DriveRuns (opOf q)) (Ok tt) tt (f .1) in
-    record { mode-fits = a .0; first-fits = not-false _ (b .0); second-fits = not-false _ (d .0); drive-fits = g .0 }
+    record { mode-fits = a .0; first-fits = not-false _ (b .0); second-fits = not-false _ (d .0); timer-fits = f .0; drive-fits = g .0 }
 
 -- ---- the table of parameters, computed once
 
@@ -167,7 +168,7 @@ module _ (d : Did) (h : Past) where
     cleared = λ a. f (sym (tag-of d _ _ (a .0)) ∙ e);
     checked = λ a. k (sym (tag-of d _ _ (a .0)) ∙ e);
     closed = λ a. l (sym (tag-of d _ _ (a .0)) ∙ e);
-    entry = λ a. ⊎-elim (λ q. s (sym (tag-of d _ _ (q .0)) ∙ e) (a .1)) (⊎-elim (λ q. absurd (omega (arith, q .sampled))) (λ q. absurd (omega (arith, ap tag (q .came-in .0))))) (a .0);
+    entry = λ a. ⊎-elim (λ q. s (sym (tag-of d _ _ (q .0)) ∙ e) (a .1)) (λ w. ⊎-elim (λ q. absurd (omega (arith, q .sampled))) (λ q. absurd (omega (arith, ap tag (q .came-in .0)))) (w .0)) (a .0);
     unpowered = λ ps p. omega (arith, ap tag p);
     weighs = w;
   }
@@ -183,7 +184,7 @@ module _ (d : Did) (h : Past) where
         cleared = λ a. absurd (never (a .1));
         checked = λ a. absurd (never (a .1));
         closed = λ a. absurd (never (a .1));
-        entry = λ a. absurd (⊎-elim (λ q. never (q .1)) (⊎-elim (λ q. omega (arith, q .sampled)) (λ q. never (q .came-in .1))) (a .0));
+        entry = λ a. absurd (⊎-elim (λ q. never (q .1)) (λ w. ⊎-elim (λ q. omega (arith, q .sampled)) (λ q. never (q .came-in .1)) (w .0)) (a .0));
         unpowered = up;
         weighs = w;
       }

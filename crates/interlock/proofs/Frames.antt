@@ -3,11 +3,11 @@ use mathlib.Core.Path.{_≡_, refl, sym, ap, subst, _∙_}
 use mathlib.Core.Bool.{Bool, true, false, cond, _&&_}
 use mathlib.Core.List.{List, [], _∷_}
 use mathlib.Core.Logic.{_⊎_, inl, inr, ⊎-elim}
-use Prim.Native.Nat.{ℕ, _+_, _-_, _<_, _≤_}
+use Prim.Native.Nat.{ℕ, zero, suc, _+_, _-_, _<_, _≤_}
 use native.Mathlib.Omega.{arith}
-use lib.ListN.{length}
-use lib.Dec.{eqb}
-use borrow.Author.Tests.{eqb-true, both-ways}
+use lib.ListN.{length, getD}
+use lib.Dec.{eqb, ltb}
+use borrow.Author.Tests.{eqb-true, eqb-false, lt-ltb, both-ways}
 use Rattle.std.specs.declared.option.Option.{Option}
 use Rattle.std.specs.declared.option.Option.the-variants.{None, Some}
 use Rattle.std.specs.declared.result.Result.{Result}
@@ -127,7 +127,7 @@ module _ (p r : List ℕ) (x : Shown) (h : Past) where
       go false e f = heard-comes (reads p r) s refl f k
       go true e f =
           let w = s .core .waiting in
-          record { deed = rests w; same = refl; told-so = told-refused D h (rests w) (reportOf BothEmpty) f (unpowered (frame p r) x) (stays D h w (no-frame e) (λ y. never (⊎-elim (λ q. q .1) (⊎-elim (λ q. absurd (omega (arith, q .sampled))) (λ q. q .came-in .1)) (y .0))) refl (k .wait-is)) refl refl; fits = tt }
+          record { deed = rests w; same = refl; told-so = told-refused D h (rests w) (reportOf BothEmpty) f (unpowered (frame p r) x) (stays D h w (no-frame e) (λ y. never (⊎-elim (λ q. q .1) (λ v. ⊎-elim (λ q. absurd (omega (arith, q .sampled))) (λ q. q .came-in .1) (v .0)) (y .0))) refl (k .wait-is)) refl refl; fits = tt }
         where
           never : x .fault ≡ None → ⊥
           never q = let z : _≡_ {A = ℕ} 0 1 = cc in omega arith
@@ -172,3 +172,21 @@ frame-right p r x s h f k words acc =
     let rest = passed (bothEmpty p r) BothEmpty (heardAnswer (reads p r) (s .core)) tt good .1 in
     let said : confirmed (s .core .waiting) (s .core) (word words 0) (word words 2) ≡ Ok tt = sym (ap (λ (c : Result Telecommand ReadFault). heardAnswer c (s .core)) read) ∙ rest in
     right-done words (did (frame p r) x) h (s .core .mode) (s .core .waiting) (s .core .drive) (s .core .parameters) (s .core .meters) (s .out) acc said (k .wait-is)
+
+-- ---- what an accepted CHECKOUT rests on
+
+free-timer : (t o : ℕ) → (ltb 0 t && eqb o 0) ≡ false → (t ≡ 0) ⊎ (o ≡ 0 → ⊥)
+free-timer zero o e = inl refl
+free-timer (suc t) o e = inr (eqb-false o 0 (subst (λ (b : Bool). (b && eqb o 0) ≡ false) (lt-ltb 0 (suc t) (omega arith)) e))
+
+pub frame-checkout : (p r : List ℕ) (x : Shown) (s : State) (h : Past) → x .fault ≡ faultOf (frameAnswer p r (s .core)) → Accepted 0x6603 [] (did (frame p r) x ∷ h) → (s .core .meters .timer ≡ 0) ⊎ (getD (s .core .parameters) 21 0 ≡ 0 → ⊥)
+frame-checkout p r x s h f acc =
+    let b = acc .0 in
+    let same = b .came-in in
+    let sp : p ≡ b .primary = cc in
+    let sr : r ≡ b .redundant = cc in
+    let read : reads p r ≡ Ok (tele 0x6603 []) = ap (λ (y : List ℕ). reads y r) sp ∙ ap (reads (b .primary)) sr ∙ b .read-as in
+    let good = fault-none (frameAnswer p r (s .core)) (sym f ∙ acc .1) in
+    let rest = passed (bothEmpty p r) BothEmpty (heardAnswer (reads p r) (s .core)) tt good .1 in
+    let said : allowed (s .core) AskCheckout ≡ Ok tt = sym (ap (λ (c : Result Telecommand ReadFault). heardAnswer c (s .core)) read) ∙ rest in
+    free-timer (s .core .meters .timer) (getD (s .core .parameters) 21 0) (allowed-ok (s .core) AskCheckout said .timer-fits)

@@ -10,4 +10,5 @@ pub mod Comes
 pub mod Frames
 pub mod Samples
 pub mod Marks
+pub mod Timer
 pub mod Whole

@@ -29,12 +29,12 @@ use Rattle.head.specs.declared.fault.Fault.the-variants.{RawCount}
 use Rattle.head.specs.declared.safe.Turn.the-variants.{Trip}
 use Rattle.interlock.specs.Events.{Event, mark}
 use Rattle.interlock.specs.Runs.{faultOf}
-use Rattle.interlock.specs.History.{Did, Past, Accepted, IsFrame, EntersSafe, SampleTrips, Counts, RawIs, RateIs, MarkTrips}
+use Rattle.interlock.specs.History.{Did, Past, Accepted, IsFrame, EntersSafe, SampleTrips, Counts, RawIs, RateIs, MarkTrips, Trips}
 use Rattle.interlock.specs.declared.step.Shown.{Shown}
 use Rattle.interlock.proofs.Agos.{ago-now, ago-later, ago-cases}
 use Rattle.interlock.proofs.Deeds.{Now, Deed, rests, enters, kind, lasts, Is, Told}
 use Rattle.interlock.proofs.Comes.{did, told-refused, stays, Comes, unpowered}
-use Rattle.interlock.proofs.Samples.{first-mark, none-mark, or-left, or-right, params-same, params-in-force, tripMeters, metersAfter}
+use Rattle.interlock.proofs.Samples.{first-mark, none-mark, or-left, or-right, params-same, params-in-force, overridden-not, override-of, tripMeters, metersAfter}
 
 -- ---- the latest raw count is the head's
 
@@ -75,14 +75,13 @@ module _ (x : Mark) (y : Shown) (s : State) (h : Past) (k : Now h s) (ls : LastI
   abbrev alarms : Bool
   alarms = rateTrips ps now-rate || sensorsTrip ps (x .temperatures)
 
-  trip-from : getD ps 21 0 ≡ 0 → alarms ≡ true → MarkTrips M h
-  trip-from ov e = record {
+  trip-from : alarms ≡ true → MarkTrips M h
+  trip-from e = record {
     marked = x;
     params = ps;
     rate-then = now-rate;
     came-in = (refl, ok);
     in-force = params-in-force s h k;
-    not-overridden = ov;
     rate-is = rate-read (s .core .meters .last) (x .raw) h ls;
     above = go (rateTrips ps now-rate) refl e;
   }
@@ -91,24 +90,22 @@ module _ (x : Mark) (y : Shown) (s : State) (h : Past) (k : Now h s) (ls : LastI
       go true q e = let a = and-parts (not (masked ps 3)) _ q in inl (not-true _ (a .0), ltb-true _ _ (a .1))
       go false q e = let a = and-parts (not (masked ps 4)) _ e in inr (not-true _ (a .0), a .1)
 
-  trip-to : (q : MarkTrips M h) → (getD ps 21 0 ≡ 0) × (alarms ≡ true)
+  trip-to : (q : MarkTrips M h) → alarms ≡ true
   trip-to q =
       let force = params-same (q .params) s h k (q .in-force) in
       let came = q .came-in .0 in
       let same : q .marked ≡ x = cc in
-      let rt : q .rate-then ≡ now-rate = rate-one (s .core .meters .last) (q .marked .raw) (q .rate-then) h ls (q .rate-is) ∙ ap (λ (z : Mark). rateAt (s .core .meters .last) (z .raw)) same in (
-        ap (λ (l : List ℕ). getD l 21 0) (sym force) ∙ q .not-overridden,
-        ⊎-elim
-            (λ a.
-            let m : masked ps 3 ≡ false = subst (λ (l : List ℕ). masked l 3 ≡ false) force (a .0) in
-            let over : 256 * getD ps 10 0 < now-rate = subst (λ (l : List ℕ). 256 * getD l 10 0 < now-rate) force (subst (λ (z : ℕ). 256 * getD (q .params) 10 0 < z) rt (a .1)) in
-            or-left (rateTrips ps now-rate) _ (ap (λ (b : Bool). not b && ltb (256 * getD ps 10 0) now-rate) m ∙ lt-ltb _ _ over))
-            (λ a.
-            let m : masked ps 4 ≡ false = subst (λ (l : List ℕ). masked l 4 ≡ false) force (a .0) in
-            let hot : warm ps (x .temperatures) ≡ true = ap (λ (z : Mark). warm ps (z .temperatures)) (sym same) ∙ subst (λ (l : List ℕ). warm l (q .marked .temperatures) ≡ true) force (a .1) in
-            or-right (rateTrips ps now-rate) _ (ap (λ (b : Bool). not b && warm ps (x .temperatures)) m ∙ hot))
-            (q .above),
-      )
+      let rt : q .rate-then ≡ now-rate = rate-one (s .core .meters .last) (q .marked .raw) (q .rate-then) h ls (q .rate-is) ∙ ap (λ (z : Mark). rateAt (s .core .meters .last) (z .raw)) same in
+      ⊎-elim
+      (λ a.
+      let m : masked ps 3 ≡ false = subst (λ (l : List ℕ). masked l 3 ≡ false) force (a .0) in
+      let over : 256 * getD ps 10 0 < now-rate = subst (λ (l : List ℕ). 256 * getD l 10 0 < now-rate) force (subst (λ (z : ℕ). 256 * getD (q .params) 10 0 < z) rt (a .1)) in
+      or-left (rateTrips ps now-rate) _ (ap (λ (b : Bool). not b && ltb (256 * getD ps 10 0) now-rate) m ∙ lt-ltb _ _ over))
+      (λ a.
+      let m : masked ps 4 ≡ false = subst (λ (l : List ℕ). masked l 4 ≡ false) force (a .0) in
+      let hot : warm ps (x .temperatures) ≡ true = ap (λ (z : Mark). warm ps (z .temperatures)) (sym same) ∙ subst (λ (l : List ℕ). warm l (q .marked .temperatures) ≡ true) force (a .1) in
+      or-right (rateTrips ps now-rate) _ (ap (λ (b : Bool). not b && warm ps (x .temperatures)) m ∙ hot))
+      (q .above)
 
   unread : (op : ℕ) (ws : List ℕ) → Accepted op ws (M ∷ h) → ⊥
   unread op ws a = let e = a .0 .came-in in let z : _≡_ {A = ℕ} 0 1 = cc in omega arith
@@ -129,13 +126,21 @@ module _ (x : Mark) (y : Shown) (s : State) (h : Past) (k : Now h s) (ls : LastI
     weighs = w;
   }
 
-  only-mark : (MarkTrips M h → ⊥) → EntersSafe (M ∷ h) → ⊥
-  only-mark no-a z = ⊎-elim (unread _ _) (⊎-elim (λ q. omega (arith, q .sampled)) no-a) (z .0)
+  no-sample : SampleTrips M h → ⊥
+  no-sample q = omega (arith, q .sampled)
 
   mark-stays : (me : Meters) → (EntersSafe (M ∷ h) → ⊥) → Comes (mark x) y s (meters-are me s) me h
   mark-stays me no-e =
       let w = s .core .waiting in
       record { deed = rests w; same = refl; told-so = told-mark (rests w) (stays M h w no-frame no-e refl (k .wait-is)) refl (λ z. absurd (no-e z)); fits = tt }
+
+-- an accepted second mark trips by the rules exactly when it does by the history
+
+pub mark-some : (x : Mark) (y : Shown) (s : State) (h : Past) (c : Check) → markTrip x (s .core) ≡ Some c → LastIs (s .core .meters .last) h → y .fault ≡ None → Now h s → Trips (did (mark x) y ∷ h)
+mark-some x y s h c e ls ok k = inr (trip-from x y s h k ls ok (first-mark (rateTrips (s .core .parameters) (rateThen x (s .core))) (sensorsTrip (s .core .parameters) (x .temperatures)) c e))
+
+pub mark-none : (x : Mark) (y : Shown) (s : State) (h : Past) → markTrip x (s .core) ≡ None → LastIs (s .core .meters .last) h → y .fault ≡ None → Now h s → Trips (did (mark x) y ∷ h) → ⊥
+mark-none x y s h e ls ok k = ⊎-elim (no-sample x y s h k ls ok) (λ q. both-ways _ (none-mark (rateTrips (s .core .parameters) (rateThen x (s .core))) (sensorsTrip (s .core .parameters) (x .temperatures)) e) (trip-to x y s h k ls ok q))
 
 mark-trips : (x : Mark) (y : Shown) (c : Check) (m : Mode) (w : Option Waiting) (dr : Option Drive) (ps : List ℕ) (me new : Meters) (o : Outputs) (h : Past)
     → markTrip x (st m w dr ps me o .core) ≡ Some c → LastIs (me .last) h → y .fault ≡ None → Now h (st m w dr ps me o)
@@ -150,15 +155,15 @@ mark-trips x y c Checkout w dr ps me new o h e ls ok k = go (notOverridden ps) r
     go : (b : Bool) → notOverridden ps ≡ b → Comes (mark x) y (st Checkout w dr ps me o) (cond b (turned Trip (st Checkout w dr ps new o)) (st Checkout w dr ps new o)) new h
     go true ov =
         let s = st Checkout w dr ps me o in
-        record { deed = enters; same = refl; told-so = told-mark x y s h k ls ok enters (inr (inr (trip-from x y s h k ls ok (eqb-true _ _ ov) (first-mark (rateTrips (s .core .parameters) (rateThen x (s .core))) (sensorsTrip (s .core .parameters) (x .temperatures)) c e))), k .mode-is) refl (λ z. refl); fits = tt }
+        record { deed = enters; same = refl; told-so = told-mark x y s h k ls ok enters (inr (mark-some x y s h c e ls ok k, overridden-not s h k (eqb-true _ _ ov)), k .mode-is) refl (λ z. refl); fits = tt }
     go false ov =
         let s = st Checkout w dr ps me o in
-        mark-stays x y s h k ls ok new (only-mark x y s h k ls ok (λ q. eqb-false _ _ ov (trip-to x y s h k ls ok q .0)))
+        mark-stays x y s h k ls ok new (λ z. ⊎-elim (unread x y s h k ls ok _ _) (λ v. eqb-false _ _ ov (override-of s h k (v .1))) (z .0))
 
 mark-by : (x : Mark) (y : Shown) (s : State) (h : Past) (t : Option Check) → markTrip x (s .core) ≡ t → LastIs (s .core .meters .last) h → y .fault ≡ None → Now h s
     → Comes (mark x) y s (tripped t (clocked x s)) (tripMeters t (clocked x s)) h
 mark-by x y s h (Some c) e ls ok k = mark-trips x y c (s .core .mode) (s .core .waiting) (s .core .drive) (s .core .parameters) (s .core .meters) (tripMeters (Some c) (clocked x s)) (s .out) h e ls ok k
-mark-by x y s h None e ls ok k = mark-stays x y s h k ls ok (clocked x s .core .meters) (only-mark x y s h k ls ok (λ q. both-ways _ (none-mark (rateTrips (s .core .parameters) (rateThen x (s .core))) (sensorsTrip (s .core .parameters) (x .temperatures)) e) (trip-to x y s h k ls ok q .1)))
+mark-by x y s h None e ls ok k = mark-stays x y s h k ls ok (clocked x s .core .meters) (λ z. ⊎-elim (unread x y s h k ls ok _ _) (λ v. mark-none x y s h e ls ok k (v .0)) (z .0))
 
 -- ---- any second mark
 
@@ -171,4 +176,4 @@ mark-comes x y s h f ls k = go (tooLarge x) f
         let w = s .core .waiting in
         let d = did (mark x) y in
         let never : y .fault ≡ None → ⊥ = λ q. let z : _≡_ {A = ℕ} 0 1 = cc in omega arith in
-        record { deed = rests w; same = refl; told-so = told-refused d h (rests w) (reportOf RawCount) f (unpowered (mark x) y) (stays d h w (λ q. let e = q .2 in let z : _≡_ {A = ℕ} 0 1 = cc in omega arith) (λ z. never (⊎-elim (λ q. q .1) (⊎-elim (λ q. absurd (omega (arith, q .sampled))) (λ q. q .came-in .1)) (z .0))) refl (k .wait-is)) refl refl; fits = tt }
+        record { deed = rests w; same = refl; told-so = told-refused d h (rests w) (reportOf RawCount) f (unpowered (mark x) y) (stays d h w (λ q. let e = q .2 in let z : _≡_ {A = ℕ} 0 1 = cc in omega arith) (λ z. never (⊎-elim (λ q. q .1) (λ v. ⊎-elim (λ q. absurd (omega (arith, q .sampled))) (λ q. q .came-in .1) (v .0)) (z .0))) refl (k .wait-is)) refl refl; fits = tt }

@@ -31,7 +31,7 @@ use Rattle.head.specs.declared.fault.Fault.the-variants.{RawCount}
 use Rattle.head.specs.declared.safe.Turn.the-variants.{Trip}
 use Rattle.interlock.specs.Events.{Event, tick, frame, sample, mark}
 use Rattle.interlock.specs.Runs.{faultOf}
-use Rattle.interlock.specs.History.{Came, powered, brought, Did, Past, weight, sampling, supplyReads, lastShown, Brings, Accepted, IsFrame, EntersSafe, ParametersAre, Out, Row, SampleTrips, Marks, Counts, RawIs, RateIs, MarkTrips}
+use Rattle.interlock.specs.History.{Came, powered, brought, Did, Past, weight, sampling, supplyReads, lastShown, Brings, Accepted, IsFrame, EntersSafe, ParameterIs, ParametersAre, Out, Row, SampleTrips, Marks, Counts, RawIs, RateIs, MarkTrips, Trips}
 use Rattle.interlock.specs.declared.step.Shown.{Shown}
 use Rattle.interlock.proofs.Agos.{ago-now, ago-later, ago-cases}
 use Rattle.interlock.proofs.Counts.{CountIs, count-kept, count-out, count-in}
@@ -135,8 +135,8 @@ module _ (x : Sample) (y : Shown) (s : State) (h : Past) (k : Now h s) where
   sample-counts cs c lt = subst (λ (n : ℕ). CountIs (Out c) n (D ∷ h)) (sym (nth x s c lt)) (count-one c (cs c lt) (out ps point x c) refl)
 
   -- a trip by the rules is one by the history
-  trip-from : (c : ℕ) → c < 3 → CountsAre (s .core .meters .counts) h → getD ps 21 0 ≡ 0 → reached ps c (getD (countsAfter x s) c 0) ≡ true → SampleTrips D h
-  trip-from c lt cs ov t =
+  trip-from : (c : ℕ) → c < 3 → CountsAre (s .core .meters .counts) h → reached ps c (getD (countsAfter x s) c 0) ≡ true → SampleTrips D h
+  trip-from c lt cs t =
       let a = and-parts (not (masked ps c)) (leb (getD ps (7 + c) 0) (getD (countsAfter x s) c 0)) t in
       let lt25 : 7 + c < 25 = omega arith in
       record {
@@ -146,12 +146,11 @@ module _ (x : Sample) (y : Shown) (s : State) (h : Past) (k : Now h s) where
         sampled = refl;
         in-force = params-in-force s h k;
         unmasked = not-true _ (a .0);
-        not-overridden = ov;
         row = sample-counts cs c lt .1 (getD ps (7 + c) 0) (k .ranged (7 + c) lt25 .1) .0 (leb-true _ _ (a .1));
       }
 
   -- and the other way round
-  trip-to : CountsAre (s .core .meters .counts) h → (t : SampleTrips D h) → (getD ps 21 0 ≡ 0) × (reached ps (t .check) (getD (countsAfter x s) (t .check) 0) ≡ true)
+  trip-to : CountsAre (s .core .meters .counts) h → (t : SampleTrips D h) → reached ps (t .check) (getD (countsAfter x s) (t .check) 0) ≡ true
   trip-to cs t =
       let force = params-same (t .params) s h k (t .in-force) in
       let c = t .check in
@@ -159,7 +158,7 @@ module _ (x : Sample) (y : Shown) (s : State) (h : Past) (k : Now h s) where
       let row : Row (Out c) (getD ps (7 + c) 0) (D ∷ h) = subst (λ (l : List ℕ). Row (Out c) (getD l (7 + c) 0) (D ∷ h)) force (t .row) in
       let there = sample-counts cs c (t .one-of) .1 (getD ps (7 + c) 0) (k .ranged (7 + c) lt25 .1) .1 row in
       let m : masked ps c ≡ false = subst (λ (l : List ℕ). masked l c ≡ false) force (t .unmasked) in
-      (ap (λ (l : List ℕ). getD l 21 0) (sym force) ∙ t .not-overridden, ap (λ (b : Bool). not b && leb (getD ps (7 + c) 0) (getD (countsAfter x s) c 0)) m ∙ le-leb _ _ there)
+      ap (λ (b : Bool). not b && leb (getD ps (7 + c) 0) (getD (countsAfter x s) c 0)) m ∙ le-leb _ _ there
 
   no-frame : IsFrame (D ∷ h) → ⊥
   no-frame f = let e = f .2 in let z : _≡_ {A = ℕ} 0 1 = cc in omega arith
@@ -196,6 +195,25 @@ at-three ps cs (suc zero) lt = refl
 at-three ps cs (suc (suc zero)) lt = refl
 at-three ps cs (suc (suc (suc n))) lt = absurd (omega arith)
 
+-- the override of the history is the head's
+pub overridden-not : (s : State) (h : Past) → Now h s → getD (s .core .parameters) 21 0 ≡ 0 → ParameterIs 21 0 h
+overridden-not s h k e = k .params-are 21 (omega arith) 0 .0 e
+
+pub override-of : (s : State) (h : Past) → Now h s → ParameterIs 21 0 h → getD (s .core .parameters) 21 0 ≡ 0
+override-of s h k a = k .params-are 21 (omega arith) 0 .1 a
+
+-- a sample trips by the rules exactly when it does by the history
+
+pub sample-some : (x : Sample) (y : Shown) (s : State) (h : Past) (c : Check) → sampleTrip x s ≡ Some c → CountsAre (s .core .meters .counts) h → Now h s → Trips (did (sample x) y ∷ h)
+sample-some x y s h c e cs k =
+    let f = first-of (reached (s .core .parameters) 0 _) (reached (s .core .parameters) 1 _) (reached (s .core .parameters) 2 _) c e in
+    inl (trip-from x y s h k (f .0) (f .1) cs (sym (at-three (s .core .parameters) (countsAfter x s) (f .0) (f .1)) ∙ f .2))
+
+pub sample-none : (x : Sample) (y : Shown) (s : State) (h : Past) → sampleTrip x s ≡ None → CountsAre (s .core .meters .counts) h → Now h s → Trips (did (sample x) y ∷ h) → ⊥
+sample-none x y s h e cs k = ⊎-elim
+    (λ q. both-ways _ (sym (at-three (s .core .parameters) (countsAfter x s) (q .check) (q .one-of)) ∙ none-of (reached (s .core .parameters) 0 _) (reached (s .core .parameters) 1 _) (reached (s .core .parameters) 2 _) (q .check) (q .one-of) e) (trip-to x y s h k cs q))
+    (no-mark x y s h k)
+
 -- where a check trips
 sample-trips : (x : Sample) (y : Shown) (c : Check) (m : Mode) (w : Option Waiting) (dr : Option Drive) (ps : List ℕ) (me new : Meters) (o : Outputs) (h : Past)
     → sampleTrip x (st m w dr ps me o) ≡ Some c → CountsAre (me .counts) h → Now h (st m w dr ps me o)
@@ -210,19 +228,18 @@ sample-trips x y c Checkout w dr ps me new o h e cs k = go (notOverridden ps) re
     go : (b : Bool) → notOverridden ps ≡ b → Comes (sample x) y (st Checkout w dr ps me o) (cond b (turned Trip (st Checkout w dr ps new o)) (st Checkout w dr ps new o)) new h
     go true ov =
         let s = st Checkout w dr ps me o in
-        let f = first-of (reached ps 0 _) (reached ps 1 _) (reached ps 2 _) c e in
-        let t = trip-from x y s h k (f .0) (f .1) cs (eqb-true _ _ ov) (sym (at-three ps (countsAfter x s) (f .0) (f .1)) ∙ f .2) in
-        record { deed = enters; same = refl; told-so = told-sample x y s h k enters (inr (inl t), k .mode-is) refl (λ z. refl); fits = tt }
+        let t = sample-some x y s h c e cs k in
+        record { deed = enters; same = refl; told-so = told-sample x y s h k enters (inr (t, overridden-not s h k (eqb-true _ _ ov)), k .mode-is) refl (λ z. refl); fits = tt }
     go false ov =
         let s = st Checkout w dr ps me o in
-        sample-stays x y s h k new (λ z. ⊎-elim (unread x y s h k _ _) (⊎-elim (λ q. eqb-false _ _ ov (trip-to x y s h k cs q .0)) (no-mark x y s h k)) (z .0))
+        sample-stays x y s h k new (λ z. ⊎-elim (unread x y s h k _ _) (λ v. eqb-false _ _ ov (override-of s h k (v .1))) (z .0))
 
 sample-by : (x : Sample) (y : Shown) (s : State) (h : Past) (t : Option Check) → sampleTrip x s ≡ t → CountsAre (s .core .meters .counts) h → Now h s
     → Comes (sample x) y s (tripped t (counts-are (countsAfter x s) s)) (tripMeters t (counts-are (countsAfter x s) s)) h
 sample-by x y s h (Some c) e cs k = sample-trips x y c (s .core .mode) (s .core .waiting) (s .core .drive) (s .core .parameters) (s .core .meters) (tripMeters (Some c) (counts-are (countsAfter x s) s)) (s .out) h e cs k
 sample-by x y s h None e cs k =
     sample-stays x y s h k (counts-are (countsAfter x s) s .core .meters)
-    (λ z. ⊎-elim (unread x y s h k _ _) (⊎-elim (λ q. both-ways _ (sym (at-three (s .core .parameters) (countsAfter x s) (q .check) (q .one-of)) ∙ none-of (reached (s .core .parameters) 0 _) (reached (s .core .parameters) 1 _) (reached (s .core .parameters) 2 _) (q .check) (q .one-of) e) (trip-to x y s h k cs q .1)) (no-mark x y s h k)) (z .0))
+    (λ z. ⊎-elim (unread x y s h k _ _) (λ v. sample-none x y s h e cs k (v .0)) (z .0))
 
 pub sample-comes : (x : Sample) (y : Shown) (s : State) (h : Past) → CountsAre (s .core .meters .counts) h → Now h s → Comes (sample x) y s (sampled x s) (metersAfter (sample x) s) h
 sample-comes x y s h cs k = sample-by x y s h (sampleTrip x s) refl cs k

@@ -5,7 +5,7 @@ use mathlib.Core.List.{List, [], _∷_}
 use mathlib.Core.Logic.{_⊎_, inl, inr, ⊎-elim, _↔_}
 use Prim.Native.Nat.{ℕ, zero, suc, _+_, _-_, _%_, _^_, _<_, _≤_}
 use native.Mathlib.Omega.{arith}
-use lib.ListN.{length, getD, take}
+use lib.ListN.{length, getD, take, drop}
 use lib.Dec.{eqb, ltb, leb}
 use borrow.Author.Tests.{eqb-true, eqb-false, eq-eqb, ne-eqb, both-ways, leb-true, ltb-true}
 use Rattle.std.specs.declared.option.Option.{Option}
@@ -36,7 +36,7 @@ use Rattle.head.specs.declared.checks.Mark.{Mark}
 use Rattle.head.specs.declared.fault.Fault.the-variants.{RawCount}
 use Rattle.interlock.specs.Events.{Event, tick, frame, sample, mark, suppliesRead, heatersRead, linesRead, reading, notDue}
 use Rattle.interlock.specs.Runs.{faultOf, next, answerOf, shownOf, ratesAfter}
-use Rattle.interlock.specs.History.{Came, powered, brought, Did, Past, weight, marks, marking, restart, ticks-since-mark, raws, newest, ratesOf, Ago, Always, Out, Brings, Accepted, IsFrame, Counts, InCheckout, EntersSafe, Sets, Starts, fires, opens, closes, shuts, Runs, PowersOn, ParameterIs, SwitchedOn, lastShown, supplyReads, heaterReads, lineReads, parameterReads}
+use Rattle.interlock.specs.History.{Came, powered, brought, Did, Past, weight, sampling, marks, marking, restart, ticks-since-mark, raws, newest, ratesOf, Ago, Always, Out, Brings, Accepted, IsFrame, Counts, Trips, TimerIs, InCheckout, EntersSafe, Sets, Starts, fires, opens, closes, shuts, Runs, PowersOn, ParameterIs, SwitchedOn, lastShown, supplyReads, heaterReads, lineReads, parameterReads}
 use Rattle.interlock.specs.Promises.{Confirms, Kept, ClockCounts, RatesHeld, begins, came-of, Follows, begun, gone, Stands}
 use Rattle.interlock.specs.declared.step.Shown.{Shown}
 use Rattle.interlock.proofs.Agos.{ago-none, ago-now, ago-cases, ago-map, always-none, always-more}
@@ -45,15 +45,17 @@ use Rattle.interlock.proofs.Parts.{ModeIs, DriveIs, ran-on, param-set, given-o
 use Rattle.interlock.proofs.Boards.{lit, lineOn, SafeIs, whole-line, whole-supply, whole-heater, tick-whole}
 use Rattle.interlock.proofs.Deeds.{ReadIs, Now, Deed, rests, heats, offs, checks, passes, acting, closing, enters, kind, lasts, apply, now-deed}
 use Rattle.interlock.proofs.Comes.{did, told, Comes, all-below, unpowered}
-use Rattle.interlock.proofs.Frames.{Rightly, frame-comes, frame-right}
+use Rattle.interlock.proofs.Frames.{Rightly, frame-comes, frame-right, frame-checkout}
 use Rattle.interlock.proofs.Counts.{count-kept, count-none}
-use Rattle.interlock.proofs.Samples.{CountsAre, sample-counts, sample-comes, tripMeters, metersAfter}
-use Rattle.interlock.proofs.Marks.{LastIs, last-kept, last-set, mark-comes}
+use Rattle.interlock.proofs.Samples.{CountsAre, sample-counts, sample-some, sample-none, sample-comes, tripMeters, metersAfter}
+use Rattle.interlock.proofs.Marks.{LastIs, last-kept, last-set, mark-some, mark-none, mark-comes}
+use Rattle.interlock.proofs.Timer.{timer-kept, timer-set}
 
 pub record Sound (h : Past) (s : State) : Type 0 where
   pub now : Now h s
   pub counts : CountsAre (s .core .meters .counts) h
   pub last : LastIs (s .core .meters .last) h
+  pub timer : TimerIs (s .core .meters .timer) h
   pub whole : Whole (s .out)
   pub kept : Always Kept h
 
@@ -175,8 +177,8 @@ module _ (d : Did) (h : Past) (before : Known h) (right : Rightly (d ∷ h)) whe
   raises-now i v lt pos other a = ⊎-elim (λ now. rightful (SetSupply i v) d h right (now .0)) (λ la. absurd (other (before .supply-known i v lt pos (la .was)))) (ago-cases d h a)
 
 -- the interlocks after the newest event
-kept-now : (d : Did) (h : Past) (s : State) → Known h → Now (d ∷ h) s → Rightly (d ∷ h) → Kept (d ∷ h)
-kept-now d hh s before n right =
+kept-now : (d : Did) (h : Past) (s : State) → Known h → Now (d ∷ h) s → Rightly (d ∷ h) → (Accepted 0x6603 [] (d ∷ h) → TimerIs 0 h ⊎ (ParameterIs 21 0 h → ⊥)) → Kept (d ∷ h)
+kept-now d hh s before n right waits =
     let h : Past = d ∷ hh in
     let su = supply-read h s n in
     let he = heater-read h s n in
@@ -199,6 +201,7 @@ kept-now d hh s before n right =
       fired-by-confirm = λ l lt on off. let lt6 : l < 6 = omega arith in let r = runs l lt6 .0 on in (r .0, fires-now d hh before right l (r .0) lt (starts-now d hh before right l (r .0) lt6 off (r .1)));
       opened-by-confirm = λ on off. let lt6 : _<_ 4 6 = omega arith in let r = runs 4 lt6 .0 on in opens-now d hh before right (r .0) (starts-now d hh before right 4 (r .0) lt6 off (r .1));
       set-by-confirm = λ i v lt e other. sets-now d hh before right i v lt other (n .params-are i lt v .0 (sym (pa i) ∙ e));
+      checkout-waits-for-timer = waits;
       mode-follows = (λ e. mode .0 (sym (n .reads .mode-read) ∙ e), λ a. n .reads .mode-read ∙ mode .1 a);
       parameter-follows = λ i v lt. (λ e. n .params-are i lt v .0 (sym (pa i) ∙ e), λ a. pa i ∙ n .params-are i lt v .1 a);
     }
@@ -243,7 +246,11 @@ module _ (stored : List ℕ) where
   no-starts l n (fires c) = unframed _ _ (c .0 .1)
   no-starts l n (opens e c y) = unframed _ _ (c .0 .1)
   no-starts l n (closes e c y) = unframed _ _ c
-  no-starts l n (shuts e c p r y) = ⊎-elim (unframed _ _) (⊎-elim (λ q. omega (arith, q .sampled)) (λ q. unmarked _ (q .came-in .0))) (c .0)
+  no-starts l n (shuts e c p r y) = ⊎-elim (unframed _ _) (λ v. ⊎-elim (λ q. omega (arith, q .sampled)) (λ q. unmarked _ (q .came-in .0)) (v .0)) (c .0)
+
+  untripped : (i : ℕ) → i < length (on ∷ []) → Trips (drop i (on ∷ [])) → ⊥
+  untripped zero lt = ⊎-elim (λ q. omega (arith, q .sampled)) (λ q. unmarked _ (q .came-in .0))
+  untripped (suc i) lt = absurd (omega arith)
 
   zeros : (i : ℕ) → i < 2 → (getD (dark .supplies) i 0 ≡ 0) × (getD (dark .heaters) i false ≡ false)
   zeros zero lt = (refl, refl)
@@ -285,8 +292,9 @@ module _ (stored : List ℕ) where
     now = now-on;
     counts = counts-on;
     last = λ v. on-none (λ c. unmarked _ (c .1 .0));
+    timer = inl (untripped, refl);
     whole = record { supplies = refl; heaters = refl; lines = refl };
-    kept = always-more Kept on [] (kept-now on [] (poweredOn stored) known-none now-on (λ words a. absurd (unframed _ _ a))) (always-none Kept);
+    kept = always-more Kept on [] (kept-now on [] (poweredOn stored) known-none now-on (λ words a. absurd (unframed _ _ a)) (λ a. absurd (unframed _ _ a))) (always-none Kept);
   }
 
 -- ---- one event more
@@ -366,29 +374,30 @@ pub record Aside (a : Meters) (t : State) : Type 0 where
   pub counts-same : t .core .meters .counts ≡ a .counts
   pub last-same : t .core .meters .last ≡ a .last
   pub time-same : t .core .meters .time ≡ a .time
+  pub timer-same : t .core .meters .timer ≡ a .timer
   pub whole-still : Whole (t .out)
 
 aside : (t : State) → Whole (t .out) → Aside (t .core .meters) t
-aside t w = record { counts-same = refl; last-same = refl; time-same = refl; whole-still = w }
+aside t w = record { counts-same = refl; last-same = refl; time-same = refl; timer-same = refl; whole-still = w }
 
 either-aside : (b : Bool) (a : Meters) (x y : State) → Aside a x → Aside a y → Aside a (cond b x y)
 either-aside true a x y p q = p
 either-aside false a x y p q = q
 
 shut-aside : (a : Meters) (dr : Option Drive) (s : State) → Aside a s → Aside a (shutFrom dr s)
-shut-aside a None s k = either-aside (eqb (getD (s .core .parameters) 24 0) 1) a _ s (record { counts-same = k .counts-same; last-same = k .last-same; time-same = k .time-same; whole-still = whole-line (s .out) 5 _ (k .whole-still) }) k
+shut-aside a None s k = either-aside (eqb (getD (s .core .parameters) 24 0) 1) a _ s (record { counts-same = k .counts-same; last-same = k .last-same; time-same = k .time-same; timer-same = k .timer-same; whole-still = whole-line (s .out) 5 _ (k .whole-still) }) k
 shut-aside a (Some d) s k = k
 
 ended-aside : (a : Meters) (dr : Option Drive) (s : State) → Aside a s → Aside a (endedFrom dr s)
 ended-aside a None s k = k
-ended-aside a (Some d) s k = either-aside (eqb (d .line) 5) a s _ k (record { counts-same = k .counts-same; last-same = k .last-same; time-same = k .time-same; whole-still = whole-line (s .out) (d .line) Off (k .whole-still) })
+ended-aside a (Some d) s k = either-aside (eqb (d .line) 5) a s _ k (record { counts-same = k .counts-same; last-same = k .last-same; time-same = k .time-same; timer-same = k .timer-same; whole-still = whole-line (s .out) (d .line) Off (k .whole-still) })
 
 apply-aside : (x : Deed) (s : State) → Whole (s .out) → Aside (s .core .meters) (apply x s)
 apply-aside (rests r) s w = aside _ w
 apply-aside (heats i v) s w = aside _ (whole-heater (s .out) i (eqb v 1) w)
 apply-aside offs s w = aside _ (whole-supply _ 1 0 (whole-supply (s .out) 0 0 w))
 apply-aside checks s w = aside _ w
-apply-aside passes s w = record { counts-same = refl; last-same = refl; time-same = refl; whole-still = tick-whole (s .core .drive) (s .out) w }
+apply-aside passes s w = record { counts-same = refl; last-same = refl; time-same = refl; timer-same = refl; whole-still = tick-whole (s .core .drive) (s .out) w }
 apply-aside (acting (SetParameter i v)) s w = aside _ w
 apply-aside (acting OpenDoor) s w = aside _ (whole-line (s .out) 4 _ w)
 apply-aside (acting (SetSupply i v)) s w = aside _ (whole-supply (s .out) i v w)
@@ -397,6 +406,48 @@ apply-aside closing s w = aside _ (whole-line (s .out) 5 _ w)
 apply-aside enters s w =
     let black : Aside (s .core .meters) (darkened (mode-is Safe s)) = aside _ (whole-heater _ 1 false (whole-heater _ 0 false (whole-supply _ 1 0 (whole-supply (s .out) 0 0 w)))) in
     shut-aside (s .core .meters) (ended (darkened (mode-is Safe s)) .core .drive) (ended (darkened (mode-is Safe s))) (ended-aside (s .core .meters) (s .core .drive) (darkened (mode-is Safe s)) black)
+
+-- the timer after an event
+
+quiet : (d : Did) (h : Past) → sampling (d .came) ≡ 0 → ((x : Mark) → d .came ≡ brought (mark x) → ⊥) → Trips (d ∷ h) → ⊥
+quiet d h none never = ⊎-elim (λ q. omega (arith, q .sampled)) (λ q. never _ (q .came-in .0))
+
+same-timer : (d : Did) (h : Past) (n : ℕ) → marking (d .came) (d .shown .fault) ≡ 0 → (Trips (d ∷ h) → ⊥) → TimerIs n h → TimerIs n (d ∷ h)
+same-timer d h n z none k = let e : n - marking (d .came) (d .shown .fault) ≡ n = omega arith in subst (λ (m : ℕ). TimerIs m (d ∷ h)) e (timer-kept d h n none k)
+
+set-timer : (d : Did) (h : Past) (s : State) → Trips (d ∷ h) → Now h s → TimerIs (getD (s .core .parameters) 22 0) (d ∷ h)
+set-timer d h s is k = timer-set d h (getD (s .core .parameters) 22 0) is (k .params-are 22 (omega arith) _ .0 refl)
+
+event-timer : (e : Event) (x : Shown) (s : State) (h : Past) → x .fault ≡ answerOf s e → Sound h s → TimerIs (metersAfter e s .timer) (did e x ∷ h)
+event-timer tick x s h f k = same-timer (did tick x) h _ refl (quiet (did tick x) h refl (λ y e. let z : _≡_ {A = ℕ} 0 1 = cc in omega arith)) (k .timer)
+event-timer (frame p r) x s h f k = same-timer (did (frame p r) x) h _ refl (quiet (did (frame p r) x) h refl (λ y e. let z : _≡_ {A = ℕ} 0 1 = cc in omega arith)) (k .timer)
+event-timer (sample y) x s h f k = go (sampleTrip y s) refl
+  where
+    go : (t : Option Check) → sampleTrip y s ≡ t → TimerIs (tripMeters t (counts-are (countsAfter y s) s) .timer) (did (sample y) x ∷ h)
+    go None e = same-timer (did (sample y) x) h _ refl (sample-none y x s h e (k .counts) (k .now)) (k .timer)
+    go (Some c) e = set-timer (did (sample y) x) h s (sample-some y x s h c e (k .counts) (k .now)) (k .now)
+event-timer (mark y) x s h f k = large (tooLarge y) f
+  where
+    trips : (t : Option Check) → markTrip y (s .core) ≡ t → x .fault ≡ None → TimerIs (tripMeters t (clocked y s) .timer) (did (mark y) x ∷ h)
+    trips None e ok =
+        let one : marking (brought (mark y)) (x .fault) ≡ 1 = ap (marking (brought (mark y))) ok in
+        let less : s .core .meters .timer - marking (brought (mark y)) (x .fault) ≡ s .core .meters .timer - 1 = omega arith in
+        subst (λ (m : ℕ). TimerIs m (did (mark y) x ∷ h)) less (timer-kept (did (mark y) x) h (s .core .meters .timer) (mark-none y x s h e (k .last) ok (k .now)) (k .timer))
+    trips (Some c) e ok = set-timer (did (mark y) x) h s (mark-some y x s h c e (k .last) ok (k .now)) (k .now)
+
+    large : (b : Bool) → x .fault ≡ faultOf (cond b (Err RawCount) (Ok tt)) → TimerIs (cond b (s .core .meters) (tripMeters (markTrip y (s .core)) (clocked y s)) .timer) (did (mark y) x ∷ h)
+    large false f = trips (markTrip y (s .core)) refl f
+    large true f =
+        same-timer (did (mark y) x) h _ (ap (marking (brought (mark y))) f)
+        (⊎-elim (λ q. omega (arith, q .sampled)) (λ q. let e = q .came-in .1 in let z : _≡_ {A = ℕ} 0 1 = cc in omega arith)) (k .timer)
+
+-- an accepted CHECKOUT found the timer at 0, or the override not at 0
+event-checkout : (e : Event) (x : Shown) (s : State) (h : Past) → x .fault ≡ answerOf s e → Sound h s → Accepted 0x6603 [] (did e x ∷ h) → TimerIs 0 h ⊎ (ParameterIs 21 0 h → ⊥)
+event-checkout tick x s h f k a = let e = a .0 .came-in in let z : _≡_ {A = ℕ} 0 1 = cc in absurd (omega arith)
+event-checkout (frame p r) x s h f k a =
+    ⊎-elim (λ z. inl (subst (λ (n : ℕ). TimerIs n h) z (k .timer))) (λ n. inr (λ o. n (k .now .params-are 21 (omega arith) 0 .1 o))) (frame-checkout p r x s h f a)
+event-checkout (sample y) x s h f k a = let e = a .0 .came-in in let z : _≡_ {A = ℕ} 0 1 = cc in absurd (omega arith)
+event-checkout (mark y) x s h f k a = let e = a .0 .came-in in let z : _≡_ {A = ℕ} 0 1 = cc in absurd (omega arith)
 
 sound-more : (e : Event) (h : Past) (s : State) → Sound h s → Sound (came-of s e ∷ h) (next s e)
 sound-more e h s k =
@@ -413,8 +464,9 @@ sound-more e h s k =
       now = n;
       counts = subst (λ (l : List ℕ). CountsAre l (did e x ∷ h)) (sym (ap (λ (t : State). t .core .meters .counts) same ∙ a .counts-same)) (event-counts e x s h k);
       last = subst (λ (o : Option ℕ). LastIs o (did e x ∷ h)) (sym (ap (λ (t : State). t .core .meters .last) same ∙ a .last-same)) (event-last e x s h refl k);
+      timer = subst (λ (n : ℕ). TimerIs n (did e x ∷ h)) (sym (ap (λ (t : State). t .core .meters .timer) same ∙ a .timer-same)) (event-timer e x s h refl k);
       whole = subst (λ (t : State). Whole (t .out)) (sym same) (a .whole-still);
-      kept = always-more Kept (did e x) h (kept-now (did e x) h (next s e) (known h s (k .now)) n (event-right e x s h refl (k .now))) (k .kept);
+      kept = always-more Kept (did e x) h (kept-now (did e x) h (next s e) (known h s (k .now)) n (event-right e x s h refl (k .now)) (event-checkout e x s h refl k)) (k .kept);
     }
 
 pub every : {h : Past} {s : State} → Follows h s → Sound h s
@@ -494,14 +546,16 @@ mark-clock true t t′ u u′ n n′ m m′ et eu en em p q = (omega arith, omeg
 mark-clock false t t′ u u′ n n′ m m′ et eu en em p q = (omega arith, omega arith)
 
 clock-more : (e : Event) (h : Past) (s : State) → Sound h s → ClockCounts h s → ClockCounts (came-of s e ∷ h) (next s e)
-clock-more tick h s k c = record { time-counts-marks = omega (arith, c .time-counts-marks); tick-number-counts-ticks = omega (arith, c .tick-number-counts-ticks) }
+clock-more tick h s k c = record { time-counts-marks = omega (arith, c .time-counts-marks); tick-number-counts-ticks = omega (arith, c .tick-number-counts-ticks); timer-counts-down = sound-more tick h s k .timer }
 clock-more (frame p r) h s k c = record {
   time-counts-marks = omega (arith, time-after (frame p r) h s k, c .time-counts-marks);
   tick-number-counts-ticks = omega (arith, tick-after (frame p r) h s k refl, c .tick-number-counts-ticks);
+  timer-counts-down = sound-more (frame p r) h s k .timer;
 }
 clock-more (sample x) h s k c = record {
   time-counts-marks = omega (arith, time-after (sample x) h s k, trip-time (sampleTrip x s) (counts-are (countsAfter x s) s), c .time-counts-marks);
   tick-number-counts-ticks = omega (arith, tick-after (sample x) h s k refl, trip-tick (sampleTrip x s) (counts-are (countsAfter x s) s), c .tick-number-counts-ticks);
+  timer-counts-down = sound-more (sample x) h s k .timer;
 }
 clock-more (mark x) h s k c =
     let b = tooLarge x in
@@ -509,10 +563,10 @@ clock-more (mark x) h s k c =
     let co = mark-counts b x (faultOf (secondAnswer x)) (marks h) (ticks-since-mark h) refl in
     let z = mark-clock b (s .core .meters .time) (next s (mark x) .core .meters .time) (s .core .meters .tick) (next s (mark x) .core .meters .tick) (marks h) (marks (came-of s (mark x) ∷ h)) (ticks-since-mark h) (ticks-since-mark (came-of s (mark x) ∷ h))
     (time-after (mark x) h s k ∙ me .0) (tick-after (mark x) h s k refl ∙ me .1) (co .0) (co .1) (c .time-counts-marks) (c .tick-number-counts-ticks) in
-    record { time-counts-marks = z .0; tick-number-counts-ticks = z .1 }
+    record { time-counts-marks = z .0; tick-number-counts-ticks = z .1; timer-counts-down = sound-more (mark x) h s k .timer }
 
 clock : {h : Past} {s : State} → Follows h s → ClockCounts h s
-clock (begun stored) = record { time-counts-marks = refl; tick-number-counts-ticks = refl }
+clock (begun stored) = record { time-counts-marks = refl; tick-number-counts-ticks = refl; timer-counts-down = sound-on stored .timer }
 clock (gone {h} {s} e f) = clock-more e h s (every f) (clock f)
 
 pub stands : {h : Past} {s : State} → Follows h s → Stands h s

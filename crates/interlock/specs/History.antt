@@ -7,7 +7,7 @@ use mathlib.Core.Path.{_≡_}
 use mathlib.Core.Bool.{Bool, true, false}
 use mathlib.Core.List.{List, [], _∷_}
 use mathlib.Core.Logic.{_⊎_}
-use Prim.Native.Nat.{ℕ, zero, suc, _+_, _*_, _<_, _≤_, max}
+use Prim.Native.Nat.{ℕ, zero, suc, _+_, _-_, _*_, _<_, _≤_, max}
 use lib.ListN.{length, take, drop, getD}
 use Rattle.std.specs.declared.option.Option.{Option}
 use Rattle.std.specs.declared.option.Option.the-variants.{None, Some}
@@ -206,7 +206,7 @@ pub record Row (O : Past → Type 0) (n : ℕ) (h : Past) : Type 0 where
   pub many : samples (take back h) ≡ n
   pub all-out : (i : ℕ) → i < back → IsSample (drop i h) → O (drop i h)
 
--- a sample at which a check that is not masked has failed as often in a row as its limit says, with override 0
+-- a sample at which a check that is not masked has failed as often in a row as its limit says
 pub record SampleTrips (d : Did) (h : Past) : Type 0 where
   pub check : ℕ
   pub params : List ℕ
@@ -214,7 +214,6 @@ pub record SampleTrips (d : Did) (h : Past) : Type 0 where
   pub sampled : sampling (d .came) ≡ 1
   pub in-force : ParametersAre params h
   pub unmasked : masked params check ≡ false
-  pub not-overridden : getD params 21 0 ≡ 0
   pub row : Row (Out check) (getD params (7 + check) 0) (d ∷ h)
 
 -- the newest event is the accepted second mark x
@@ -233,35 +232,51 @@ RawIs n h = Ago (λ t p. Counts n p) (λ p. (m : ℕ) → Counts m p → ⊥) h
 abbrev pub RateIs : ℕ → ℕ → Past → Type 0
 RateIs r n h = ((b : ℕ) × RawIs b h × (r ≡ rate b n)) ⊎ (((b : ℕ) → RawIs b h → ⊥) × (r ≡ 0))
 
--- an accepted second mark at which the rate or a temperature is above its limit, not masked, with override 0
+-- an accepted second mark at which the rate or a temperature is above its limit, not masked
 pub record MarkTrips (d : Did) (h : Past) : Type 0 where
   pub marked : Mark
   pub params : List ℕ
   pub rate-then : ℕ
   pub came-in : Marks marked (d ∷ h)
   pub in-force : ParametersAre params h
-  pub not-overridden : getD params 21 0 ≡ 0
   pub rate-is : RateIs rate-then (marked .raw) h
   pub above : ((masked params 3 ≡ false) × (256 * getD params 10 0 < rate-then)) ⊎ ((masked params 4 ≡ false) × (warm params (marked .temperatures) ≡ true))
 
 -- ---- modes
 
--- the newest event is a trip
+-- at the newest event a check trips
 abbrev pub Trips : Past → Type 0
 Trips [] = ⊥
 Trips (d ∷ h) = SampleTrips d h ⊎ MarkTrips d h
 
--- the newest event is an accepted SAFE command or a trip
+-- the newest event is an accepted SAFE command, or a check trips at it with override 0
 abbrev pub Leaves : Past → Type 0
-Leaves p = Accepted 0x6602 [] p ⊎ Trips p
+Leaves p = Accepted 0x6602 [] p ⊎ (Trips p × Before (ParameterIs 21 0) p)
 
--- CHECKOUT was accepted, and neither SAFE nor a trip came since
+-- CHECKOUT was accepted, and neither SAFE nor a trip with override 0 came since
 abbrev pub InCheckout : Past → Type 0
 InCheckout h = Ago (λ t p. Accepted 0x6603 [] p) (λ p. Leaves p → ⊥) h
 
 -- the newest event is an entry into SAFE: a change from CHECKOUT
 abbrev pub EntersSafe : Past → Type 0
 EntersSafe p = Leaves p × Before InCheckout p
+
+-- ---- the safety timer
+
+-- no check ever tripped, and the timer is at 0
+abbrev pub NeverSet : ℕ → Past → Type 0
+NeverSet n h = ((i : ℕ) → i < length h → Trips (drop i h) → ⊥) × (n ≡ 0)
+
+-- the latest trip set the timer to parameter 22 as it then was, and the accepted second marks since lessened it
+pub record SetBack (n : ℕ) (h : Past) : Type 0 where
+  pub trip : Ago (λ t p. Trips p) (λ p. Trips p → ⊥) h
+  pub seconds : ℕ
+  pub in-force : Before (ParameterIs 22 seconds) (drop (trip .back) h)
+  pub left : n ≡ seconds - marks (take (trip .back) h)
+
+-- the safety timer stands at n
+abbrev pub TimerIs : ℕ → Past → Type 0
+TimerIs n h = NeverSet n h ⊎ SetBack n h
 
 -- ---- supplies, heaters and drives
 

@@ -13,7 +13,7 @@ use Rattle.head.specs.State.{State}
 use Rattle.head.specs.declared.Mode.the-variants.{Checkout}
 use Rattle.interlock.specs.Events.{Event, reading, notDue}
 use Rattle.interlock.specs.Runs.{next, shownOf, stepAt, eventAt}
-use Rattle.interlock.specs.History.{Came, powered, brought, Did, Past, marks, ticks-since-mark, raws, ratesOf, Ago, Always, Before, supplyReads, heaterReads, lineReads, parameterReads, lastShown, Accepted, IsFrame, PowersOn, ParameterIs, InCheckout, EntersSafe, SwitchedOn, HeatedOn, Starts, Runs}
+use Rattle.interlock.specs.History.{Came, powered, brought, Did, Past, marks, ticks-since-mark, raws, ratesOf, Ago, Always, Before, supplyReads, heaterReads, lineReads, parameterReads, lastShown, Accepted, IsFrame, PowersOn, ParameterIs, InCheckout, EntersSafe, TimerIs, SwitchedOn, HeatedOn, Starts, Runs}
 use Rattle.std.specs.declared.option.Option.the-variants.{None}
 use Rattle.interlock.specs.declared.step.Step.{Step}
 
@@ -50,6 +50,8 @@ pub record Kept (h : Past) : Type 0 where
   pub fired-by-confirm : (l : ℕ) → l < 4 → lineReads l h ≡ true → Before (λ p. lineReads l p ≡ false) h → (n : ℕ) × Confirms 0x6612 (l ∷ n ∷ []) h
   pub opened-by-confirm : lineReads 4 h ≡ true → Before (λ p. lineReads 4 p ≡ false) h → Confirms 0x660f [] h
   pub set-by-confirm : (i v : ℕ) → i < 25 → parameterReads i h ≡ v → Before (λ p. parameterReads i p ≡ v → ⊥) h → Confirms 0x6607 (i ∷ v ∷ []) h ⊎ PowersOn i v h
+  -- CHECKOUT is accepted only with the safety timer at 0, or the override not at 0
+  pub checkout-waits-for-timer : Accepted 0x6603 [] h → Before (λ p. TimerIs 0 p ⊎ (ParameterIs 21 0 p → ⊥)) h
   -- the head's own mode and parameters are those of the history
   pub mode-follows : (lastShown h .mode ≡ Checkout) ↔ InCheckout h
   pub parameter-follows : (i v : ℕ) → i < 25 → (parameterReads i h ≡ v) ↔ ParameterIs i v h
@@ -72,10 +74,11 @@ abbrev pub continued : Past → ℕ → List Step → Past
 continued h zero steps = h
 continued h (suc n) steps = record { came = brought (eventAt steps n); shown = stepAt steps n .shown } ∷ continued h n steps
 
--- the head's clock counts what came: time the accepted second marks, the tick number the ticks since the latest
+-- the head's clock counts what came: time the accepted second marks, the tick number the ticks since the latest, the safety timer the seconds since the latest trip
 pub record ClockCounts (h : Past) (s : State) : Type 0 where
   pub time-counts-marks : s .core .meters .time ≡ (1000000 + marks h) % 2 ^ 32
   pub tick-number-counts-ticks : s .core .meters .tick ≡ ticks-since-mark h % 200
+  pub timer-counts-down : TimerIs (s .core .meters .timer) h
 
 -- the rates held are those of the accepted second marks, newest first, cut at the room for them
 abbrev pub RatesHeld : Past → Roll ℕ → Type 0
