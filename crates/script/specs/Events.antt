@@ -68,6 +68,6 @@ InRange (Ticks n) = (1 ≤ n) × (n ≤ 65535)
 InRange (Sampled s) = SixBytes s
 InRange (Second m) = MarkFits m
 
--- in range, and of one kind
+-- in range, and with the letter of one kind
 abbrev pub Of : Kind → EventLine → Type 0
-Of k x = InRange x × (kindOf x ≡ k)
+Of k x = InRange x × (letterOf (kindOf x) ≡ letterOf k)

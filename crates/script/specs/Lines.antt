@@ -1,10 +1,11 @@
 -- A line as far as it has been read.
 use mathlib.Core.Path.{_≡_}
 use mathlib.Core.Bool.{cond}
-use mathlib.Core.List.{List, _∷_, _++_}
-use Prim.Native.Nat.{ℕ, suc, _+_}
-use lib.Dec.{leb}
+use mathlib.Core.List.{List, [], _∷_, _++_}
+use Prim.Native.Nat.{ℕ, suc}
+use lib.Dec.{ltb}
 use lib.ListN.{length, take}
+use Rattle.std.specs.Iters.{folded}
 use Rattle.std.specs.Options.{Cases}
 use Rattle.std.specs.declared.option.Option.{Option}
 use Rattle.std.specs.declared.option.Option.the-variants.{None, Some}
@@ -15,10 +16,14 @@ use Rattle.script.specs.declared.line.LineBuffer.{LineBuffer}
 abbrev pub kept : LineBuffer → Option (List ℕ)
 kept l = cond (l .overlong) None (Some (take (l .count) (l .bytes)))
 
--- the same with more bytes behind
+-- one byte more, while there is room for it
+abbrev pub with-byte : Option (List ℕ) → ℕ → Option (List ℕ)
+with-byte None b = None
+with-byte (Some bs) b = cond (ltb (length bs) 130) (Some (bs ++ b ∷ [])) None
+
+-- more bytes, one after the other
 abbrev pub onto : Option (List ℕ) → List ℕ → Option (List ℕ)
-onto None more = None
-onto (Some bs) more = cond (leb (length bs + length more) 130) (Some (bs ++ more)) None
+onto line more = folded with-byte line more
 
 -- no line feed
 abbrev pub Feedless : List ℕ → Type 0

@@ -1,10 +1,10 @@
 //! A line as it is read, chunk by chunk.
 ghost use mathlib.Core.Path.{_≡_};
-ghost use mathlib.Core.List.{[], _∷_};
+ghost use mathlib.Core.List.{[]};
 ghost use denote.Ref.{now as behind};
 ghost use Rattle.std.specs.Options.{mapped};
 ghost use Rattle.std.specs.declared.option.Option.the-variants.{Some};
-ghost use Rattle.script.specs.Lines.{kept, onto, Took};
+ghost use Rattle.script.specs.Lines.{kept, with-byte, Took};
 
 /// The longest legal line: `F`, a space and 64 octets.
 const LONGEST: usize = 130;
@@ -31,7 +31,7 @@ impl LineBuffer {
 
     // One byte more.
     fn push(&mut self, byte: u8)
-        ensures { λ _. ⌜ kept (now (self .exit)) ≡ onto (kept (now (self .entry))) (byte ∷ []) ⌝ }
+        ensures { λ _. ⌜ kept (now (self .exit)) ≡ with-byte (kept (now (self .entry))) byte ⌝ }
     {
         if self.count < LONGEST {
             self.bytes[self.count] = byte;

@@ -74,8 +74,8 @@ fn sum_of_bits(on: &[bool]) -> u8
     ensures { λ r. ⌜ r ≡ sumOfBits (now (on .entry)) ⌝ }
 {
     let mut sum = 0;
-    for bit in on.iter().rev() {
-        sum = 2 * sum + (*bit as u8);
+    for i in (0..on.len()).rev() {
+        sum = 2 * sum + (on[i] as u8);
     }
     sum
 }

@@ -29,8 +29,8 @@ returns t c =
     let parts = split-parts 32 (c .args .text .now) (c .split-once .result) (c .split-once .ensures .cases) (lit< tt) in
     let cut = simp (c .in-Some-split-once .is) at parts in
     onward (c .args .values .now) (c .fill .last .values) (c .args .text .now) (c .in-Some-split-once .field .now) (c .in-Some-split-once .more .now)
-      (c .in-Some-number .n) (c .fill .result) (omega arith) (omega arith) (c .in-Some-number .ensures tt .0) (c .in-Some-number .ensures tt .1) (cut .0)
-      (λ ns same small e.
-        let got = split-fields ns (c .args .text .now) (c .split-once .result) (c .split-once .ensures .cases) (omega arith) small e in
-        simp (c .in-Some-split-once .is) at got)
-      (c .fill .ensures)
+    (c .in-Some-number .n) (c .fill .result) (omega arith) (omega arith) (c .in-Some-number .ensures tt .0) (c .in-Some-number .ensures tt .1) (cut .0)
+    (λ ns same small e.
+    let got = split-fields ns (c .args .text .now) (c .split-once .result) (c .split-once .ensures .cases) (omega arith) small e in
+    simp (c .in-Some-split-once .is) at got)
+    (c .fill .ensures)

@@ -10,13 +10,14 @@ use Rattle.script.proofs.decimals.number.Needs as need
 pub returns-then-not-is-plain : need.returns-then-not-is-plain
 returns-then-not-is-plain c n h e =
     both-ways (plain (c .args .text .now)) (ap plain (sym (c .as-bytes .ensures .value)) ∙ sym (c .if-not-is-plain .ensures tt))
-      (ap plain (sym e) ∙ decimal-plain n (omega arith))
+    (ap plain (sym e) ∙ decimal-plain n (omega arith))
 
 pub returns-then-n-most : need.returns-then-n-most
-returns-then-n-most c =
-    (c .if-n-most .taken,
-     read-decimal (c .args .text .now) (c .parse .result) (c .parse .ensures .reads .0)
-       (ap plain (sym (c .as-bytes .ensures .value)) ∙ sym (c .if-not-is-plain .ensures tt)) (c .in-Ok .n) (c .in-Ok .is))
+returns-then-n-most c = (
+  c .if-n-most .taken,
+  read-decimal (c .args .text .now) (c .parse .result) (c .parse .ensures .reads .0)
+      (ap plain (sym (c .as-bytes .ensures .value)) ∙ sym (c .if-not-is-plain .ensures tt)) (c .in-Ok .n) (c .in-Ok .is),
+)
 
 pub returns-else-n-most : need.returns-else-n-most
 returns-else-n-most c n h e =
