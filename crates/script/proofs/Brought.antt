@@ -111,7 +111,7 @@ spaced-ascii (n ∷ []) h = ascii-decimal n (h .0)
 spaced-ascii (n ∷ m ∷ ns) h =
     ascii-append (decimal n) (32 ∷ spaced (m ∷ ns)) (ascii-decimal n (h .0)) (ascii-cons 32 (spaced (m ∷ ns)) (lit< tt) (spaced-ascii (m ∷ ns) (h .1)))
 
-wider : (ns : List ℕ) → Bytes ns → All (λ n. n < 2 ^ 64) ns
+pub wider : (ns : List ℕ) → Bytes ns → All (λ n. n < 2 ^ 64) ns
 wider ns h = all-weaker (λ n. n ≤ 255) (λ n. n < 2 ^ 64) (λ n g. omega arith) ns h
 
 fields-ascii : (x : EventLine) → InRange x → Ascii (fieldsOf x)

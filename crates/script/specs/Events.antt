@@ -5,7 +5,9 @@ use Prim.Native.Nat.{ℕ, _≤_, _<_, _^_}
 use lib.ListN.{length}
 use Rattle.head.specs.declared.checks.Mark.{Mark}
 use Rattle.head.specs.declared.checks.Sample.{Sample}
+use Rattle.std.specs.Options.{Cases}
 use Rattle.std.specs.Written.{decimal}
+use Rattle.std.specs.declared.option.Option.{Option}
 use Rattle.script.specs.Hex.{hex, octetsIn, Sound}
 use Rattle.script.specs.Numbers.{spaced, Bytes}
 use Rattle.script.specs.declared.event.EventLine.{EventLine}
@@ -71,3 +73,7 @@ InRange (Second m) = MarkFits m
 -- in range, and with the letter of one kind
 abbrev pub Of : Kind → EventLine → Type 0
 Of k x = InRange x × (letterOf (kindOf x) ≡ letterOf k)
+
+-- no other value in range has the text of what was read
+abbrev pub Only : List ℕ → Option EventLine → Type 0
+Only text r = Cases r (Unit {0}) (λ x. (y : EventLine) → InRange y → textOf y ≡ text → y ≡ x)

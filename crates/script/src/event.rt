@@ -1,6 +1,6 @@
 //! Event lines: a letter, a space, and what the event brings.
 ghost use mathlib.Core.Path.{_≡_};
-ghost use Rattle.script.specs.Events.{kindOf, fieldsOf, textOf, InRange, Of};
+ghost use Rattle.script.specs.Events.{kindOf, fieldsOf, textOf, InRange, Of, Only};
 ghost use Rattle.script.specs.Reading.{Reads};
 ghost use Rattle.script.specs.declared.outcome.Kind.the-variants.{Frame as OfFrame, Ticks as OfTicks, Sample as OfSample, Second as OfSecond};
 use super::decimals::fill;
@@ -104,7 +104,8 @@ fn second(fields: &str) -> Option<EventLine>
 
 /// What an event line brings, or none where the line is malformed.
 pub fn event_line(line: &[u8]) -> Option<EventLine>
-    ensures { λ r. ⌜ Reads InRange textOf (now (line .entry)) r ⌝ }
+    ensures reads { λ r. ⌜ Reads InRange textOf (now (line .entry)) r ⌝ }
+    ensures only { λ r. ⌜ Only (now (line .entry)) r ⌝ }
 {
     let Ok(text) = from_utf8(line) else {
         return None;

@@ -28,5 +28,5 @@ returns-else-n-most c n h e =
 pub returns-in-Err : need.returns-in-Err
 returns-in-Err c n h e =
     let back = reads-back (c .args .text .now) (c .parse .result) (c .parse .ensures .reads .0) n (omega arith) e in
-    let z : _≡_ {A = ℕ} 0 1 = cc (c .in-Err .is, back) in
+    let z : _≡_ {A = ℕ} 0 1 = cc back in
     omega arith
