@@ -5,7 +5,7 @@ use mathlib.Core.List.{List}
 use mathlib.Core.Logic.{_⊎_, inl, inr, ⊎-elim}
 use Prim.Native.Nat.{ℕ, zero, suc, _+_, _^_, _<_, _≤_}
 use native.Mathlib.Omega.{arith}
-use lib.Dec.{ltb, eqb}
+use lib.Dec.{eqb}
 use lib.ListN.{length, getD}
 use Rattle.std.specs.Reads.{Digits, value, ReadsUnsigned}
 use Rattle.std.specs.Written.{decimal}
@@ -20,7 +20,7 @@ own : Numerals (Digits 10) (value 10)
 own = numerals-by-value (Digits 10) tells-digits
 
 shape : ℕ → ℕ → Bool
-shape l f = ltb 0 l && (not (eqb f 43) && (not (eqb f 48) || eqb l 1))
+shape l f = (not (eqb l 0) && not (eqb f 43)) && (not (eqb f 48) || eqb l 1)
 
 some : (l f : ℕ) → shape l f ≡ true → 0 < l
 unfolding shape

@@ -3,7 +3,7 @@ use mathlib.Core.Path.{_≡_}
 use mathlib.Core.Bool.{Bool, _&&_, _||_, not}
 use mathlib.Core.List.{List, [], _∷_, _++_}
 use Prim.Native.Nat.{ℕ, _≤_}
-use lib.Dec.{ltb, eqb}
+use lib.Dec.{eqb}
 use lib.ListN.{length, getD}
 use Rattle.std.specs.Orderings.{When}
 use Rattle.std.specs.Written.{decimal}
@@ -11,7 +11,7 @@ use Rattle.std.specs.shelf.Lists.{All}
 
 -- not empty, no sign, no leading zero
 abbrev pub plain : List ℕ → Bool
-plain bs = ltb 0 (length bs) && (not (eqb (getD bs 0 0) 43) && (not (eqb (getD bs 0 0) 48) || eqb (length bs) 1))
+plain bs = (not (eqb (length bs) 0) && not (eqb (getD bs 0 0) 43)) && (not (eqb (getD bs 0 0) 48) || eqb (length bs) 1)
 
 -- the decimals of numbers, with one space between two
 abbrev pub spaced : List ℕ → List ℕ

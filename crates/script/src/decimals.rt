@@ -7,11 +7,11 @@ ghost use Rattle.script.specs.Reading.{Reads};
 ghost use Rattle.script.specs.Numbers.{plain, Filled};
 use std::str::from_utf8;
 
-// Whether a text has no sign and no leading zero, and is not empty.
+// Whether a text is not empty, and has no sign and no leading zero.
 fn is_plain(text: &[u8]) -> bool
     ensures { λ r. ⌜ r ≡ plain (now (text .entry)) ⌝ }
 {
-    text.len() > 0 && (text[0] != b'+' && (text[0] != b'0' || text.len() == 1))
+    !text.is_empty() && text[0] != b'+' && (text[0] != b'0' || text.len() == 1)
 }
 
 // The number that a text writes, up to `most`.

@@ -5,6 +5,7 @@ ghost use Rattle.script.specs.Reading.{Reads};
 ghost use Rattle.script.specs.declared.outcome.Kind.the-variants.{Frame as OfFrame, Ticks as OfTicks, Sample as OfSample, Second as OfSecond};
 use super::decimals::fill;
 use super::decimals::number;
+use super::hexadecimal::MOST;
 use super::hexadecimal::Octets;
 use super::hexadecimal::read_octets;
 use super::outcome::Kind;
@@ -45,7 +46,7 @@ fn frame(fields: &str) -> Option<EventLine>
 {
     if fields == "-" {
         let none = Octets {
-            bytes: [0; 64],
+            bytes: [0; MOST],
             count: 0,
         };
         return Some(EventLine::Frame(none));

@@ -6,12 +6,12 @@ ghost use Rattle.script.specs.Hex.{hexDigit, octetText, hex, octetsIn, Sound, 
 ghost use Rattle.script.specs.Reading.{Reads};
 
 /// The most octets that a line holds.
-const MOST: usize = 64;
+pub(super) const MOST: usize = 64;
 
 /// Up to 64 octets: the first `count` of `bytes`. The places after them are zero.
 #[derive(Clone, Copy)]
 pub struct Octets {
-    pub bytes: [u8; 64],
+    pub bytes: [u8; MOST],
     pub count: usize,
 }
 
@@ -54,7 +54,7 @@ pub(super) fn read_octets(text: &[u8]) -> Option<Octets>
         return None;
     }
     let count = text.len() / 2;
-    let mut bytes = [0; 64];
+    let mut bytes = [0; MOST];
     for i in 0..count {
         let Some(value) = octet(text[2 * i], text[2 * i + 1]) else {
             return None;

@@ -12,7 +12,7 @@ const LONGEST: usize = 130;
 /// A line as far as it has come. No more than the longest legal line is kept of it.
 #[derive(Clone, Copy)]
 pub struct LineBuffer {
-    bytes: [u8; 130],
+    bytes: [u8; LONGEST],
     count: usize,
     overlong: bool,
 }
@@ -23,7 +23,7 @@ impl LineBuffer {
         ensures { λ r. ⌜ kept r ≡ Some [] ⌝ }
     {
         LineBuffer {
-            bytes: [0; 130],
+            bytes: [0; LONGEST],
             count: 0,
             overlong: false,
         }
