@@ -6,28 +6,24 @@ use super::stop::StopFromIo;
 use super::stop::StopFromWrite;
 use telecommand::write;
 
-const FIRE_RELEASE: u16 = 0x6612;
+pub const FIRE_RELEASE: u16 = 0x6612;
 
-const CONFIRM: u16 = 0x6604;
+pub const CONFIRM: u16 = 0x6604;
 
-/// The two frames as they lie in the buffer.
-#[derive(Clone, Copy)]
-pub struct Sent<'a> {
-    pub firing: &'a [u8],
-    pub confirm: &'a [u8],
-}
+/// The word of the release: line 2, for 4 ticks.
+pub const RELEASE: u16 = 0x0204;
 
-/// Writes the frame that fires the release on line 2 for 40 ticks, and then its confirm.
-pub fn write_frames<'a>(rt: &LibcRuntime, buffer: &'a mut [u8]) -> Result<Sent<'a>, Stop> {
+/// Writes the frame that fires the release, and then its confirm. Returns the first one, as it lies in the buffer.
+pub fn write_frames<'a>(rt: &LibcRuntime, buffer: &'a mut [u8]) -> Result<&'a [u8], Stop> {
     paragraph(
         rt,
         &[
-            "The release on line 2 is to be fired for 40 ticks. That is critical, so a confirm",
+            "The release on line 2 is to be fired for 4 ticks. That is critical, so a confirm",
             "follows: the op-code once more, and its complement. Both frames go into one",
             "buffer, one after the other.",
         ],
     )?;
-    let first = write(buffer, 0, FIRE_RELEASE, &[0x0228], 0)?;
+    let first = write(buffer, 0, FIRE_RELEASE, &[RELEASE], 0)?;
     let second = write(buffer, first, CONFIRM, &[FIRE_RELEASE, !FIRE_RELEASE], 1)?;
     let Some((firing, others)) = buffer.split_at_checked(first) else {
         return Err(Stop::Changed);
@@ -38,5 +34,5 @@ pub fn write_frames<'a>(rt: &LibcRuntime, buffer: &'a mut [u8]) -> Result<Sent<'
     show_octets(rt, "fire release", firing)?;
     show_octets(rt, "confirm", confirm)?;
     show_octets(rt, "untouched", untouched)?;
-    Ok(Sent { firing, confirm })
+    Ok(firing)
 }

@@ -1,9 +1,6 @@
 //! What comes in on the links: frames that are refused, and the command that is taken.
-use super::frames::Sent;
 use super::narration::paragraph;
 use super::narration::show_octets;
-use super::octets::Octets;
-use super::octets::OctetsDisplay;
 use super::stop::Stop;
 use super::stop::StopFromAlloc;
 use super::stop::StopFromIo;
@@ -50,13 +47,6 @@ const TRIALS: [Trial; 5] = [
     },
 ];
 
-/// A release to fire: its line, and for how many ticks.
-#[derive(Clone, Copy)]
-pub struct Release {
-    pub line: u8,
-    pub ticks: u8,
-}
-
 fn show_fault(rt: &LibcRuntime, label: &str, fault: ReadFault) -> io::Result<()> {
     println!(rt, "   {label:<13} {fault}")?;
     println!(rt, "   report        {}", fault.report())
@@ -95,16 +85,6 @@ fn show_links(rt: &LibcRuntime, primary: &[u8], redundant: &[u8]) -> Result<(), 
     Ok(())
 }
 
-fn release_of(command: Command<'_>) -> Result<Release, Stop> {
-    match command {
-        Command::FireRelease([line, ticks]) => Ok(Release {
-            line: *line,
-            ticks: *ticks,
-        }),
-        _ => Err(Stop::Changed),
-    }
-}
-
 // The frame as it comes over a line with noise: octet 1 is another.
 fn damaged(heap: Global, frame: &[u8]) -> Result<Vec<u8>, AllocError> {
     let mut link = frame.to_vec(heap)?;
@@ -114,39 +94,23 @@ fn damaged(heap: Global, frame: &[u8]) -> Result<Vec<u8>, AllocError> {
     Ok(link)
 }
 
-fn take_firing<'a>(
-    rt: &LibcRuntime,
-    primary: &'a [u8],
-    redundant: &'a [u8],
-) -> Result<Release, Stop> {
-    show_links(rt, primary, redundant)?;
+// The release that stands on the links.
+fn show_release<'a>(rt: &LibcRuntime, primary: &'a [u8], redundant: &'a [u8]) -> Result<(), Stop> {
     let command = read(primary, redundant)?;
-    let release = release_of(command)?;
-    let Release { line, ticks } = release;
-    println!(rt, "   command       {command}, line {line}, {ticks} ticks")?;
-    Ok(release)
-}
-
-fn take_confirm<'a>(rt: &LibcRuntime, primary: &'a [u8], redundant: &'a [u8]) -> Result<(), Stop> {
-    show_links(rt, primary, redundant)?;
-    let command = read(primary, redundant)?;
-    let Command::Confirm(words) = command else {
+    let Command::FireRelease([line, ticks]) = command else {
         return Err(Stop::Changed);
     };
-    println!(rt, "   command       {command}, words {}", Octets(words))?;
+    println!(rt, "   command       {command}, line {line}, {ticks} ticks")?;
     Ok(())
 }
 
-/// The release that the frames ask for. Noise meets the firing on the primary link; the confirm comes whole.
-pub fn take_release(rt: &LibcRuntime, sent: Sent<'_>) -> Result<Release, Stop> {
+/// Sends a firing on both links, with noise on the primary, and shows what is taken.
+pub fn take_release(rt: &LibcRuntime, firing: &[u8]) -> Result<(), Stop> {
     paragraph(
         rt,
-        &["Both frames are sent on both links. Noise meets the first one on the primary."],
+        &["The first frame is sent on both links. Noise meets it on the primary."],
     )?;
-    let primary = damaged(rt.alloc(), sent.firing)?;
-    let release = take_firing(rt, primary.as_slice(), sent.firing)?;
-    println!(rt)?;
-    paragraph(rt, &["The confirm comes whole on both."])?;
-    take_confirm(rt, sent.confirm, sent.confirm)?;
-    Ok(release)
+    let link = damaged(rt.alloc(), firing)?;
+    show_links(rt, link.as_slice(), firing)?;
+    show_release(rt, link.as_slice(), firing)
 }

@@ -1,17 +1,21 @@
 //! One task from beginning to end: a release is commanded, the link is checked, the command is taken off the good
-//! link, and the line of the release goes on and off.
-mod firing;
+//! link, and a head fires it, once its confirm has come. Then the high voltage fails, and the head goes to SAFE.
 mod frames;
 mod links;
 mod narration;
 mod octets;
+mod operation;
+mod plain;
+mod steps;
 mod stop;
+mod table;
+mod uplink;
 
-use firing::fire;
 use frames::write_frames;
 use links::check_link;
 use links::take_release;
 use narration::heading;
+use operation::operate_head;
 use stop::Stop;
 use stop::StopDebug;
 use stop::StopFromIo;
@@ -30,13 +34,12 @@ fn walk(rt: &LibcRuntime) -> Result<(), Stop> {
     )?;
     let mut buffer = [0; ROOM];
     heading(rt, 1, "The frames are written")?;
-    let sent = write_frames(rt, &mut buffer)?;
+    let firing = write_frames(rt, &mut buffer)?;
     heading(rt, 2, "The link is checked with what it must refuse")?;
     check_link(rt)?;
     heading(rt, 3, "The primary link is damaged, the redundant is taken")?;
-    let release = take_release(rt, sent)?;
-    heading(rt, 4, "The line of the release goes on and off")?;
-    fire(rt, release)
+    take_release(rt, firing)?;
+    operate_head(rt)
 }
 
 fn main(rt: LibcRuntime) -> Result<(), Stop> {

@@ -7,11 +7,17 @@ pub fn heading(rt: &LibcRuntime, number: u8, text: &str) -> io::Result<()> {
     println!(rt, "\n{number}. {text}\n")
 }
 
-/// Lines of text, and an empty line.
-pub fn paragraph(rt: &LibcRuntime, lines: &[&str]) -> io::Result<()> {
+/// Lines of text.
+pub fn remark(rt: &LibcRuntime, lines: &[&str]) -> io::Result<()> {
     for line in lines {
         println!(rt, "   {line}")?;
     }
+    Ok(())
+}
+
+/// Lines of text, and an empty line.
+pub fn paragraph(rt: &LibcRuntime, lines: &[&str]) -> io::Result<()> {
+    remark(rt, lines)?;
     println!(rt)
 }
 

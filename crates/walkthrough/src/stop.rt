@@ -1,5 +1,4 @@
 //! Why the walkthrough cannot go on.
-use board::FaultDebug;
 use std::alloc::AllocError;
 use std::io;
 use telecommand::ReadFault;
@@ -11,11 +10,10 @@ use telecommand::WriteFaultDebug;
 pub enum Stop {
     /// Nothing can be printed.
     Print(io::Error),
-    /// There is no memory for a link.
+    /// There is no memory for a link or an answer.
     Memory,
     Read(ReadFault),
     Write(WriteFault),
-    Board(board::Fault),
     /// Something else was read than was written.
     Changed,
 }
@@ -41,11 +39,5 @@ pub impl From<ReadFault> for Stop as StopFromRead {
 pub impl From<WriteFault> for Stop as StopFromWrite {
     fn from(fault: WriteFault) -> Stop {
         Stop::Write(fault)
-    }
-}
-
-pub impl From<board::Fault> for Stop as StopFromBoard {
-    fn from(fault: board::Fault) -> Stop {
-        Stop::Board(fault)
     }
 }
