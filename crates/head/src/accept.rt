@@ -130,7 +130,7 @@ impl Core {
     fn confirms(&self, waiting: Waiting, opcode: u16, complement: u16) -> Result<(), Fault>
         ensures { λ r. ⌜ r ≡ confirmed (Some waiting) (now (self .entry)) opcode complement ⌝ }
     {
-        if opcode != waiting.order.opcode() || complement != 0xFFFF - opcode {
+        if opcode != waiting.order.opcode() || complement != !opcode {
             return Err(Fault::WrongConfirm);
         }
         match self.allows(Request::Critical(waiting.order)) {

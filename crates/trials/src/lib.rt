@@ -5,6 +5,8 @@ mod boards;
 #[cfg(test)]
 mod counting;
 #[cfg(test)]
+mod heads;
+#[cfg(test)]
 mod reader;
 #[cfg(test)]
 mod rings;

@@ -87,7 +87,8 @@ fn show_steps(rt: &LibcRuntime, steps: &[Step; STEPS]) -> Result<(), Stop> {
             "The blank confirm, step 3, is refused, and what waited is lost to it, so that the",
             "right confirm, step 4, finds nothing. Step 6 fires: line 2 is on until the fourth",
             "tick. Four bad samples do nothing. The fifth one leads to SAFE: the supplies go off",
-            "and line 5 closes the door. The safety timer runs, so CHECKOUT has to wait.",
+            "and line 5 closes the door, as the default in place of the bad parameter has it.",
+            "The safety timer runs, so CHECKOUT has to wait.",
         ],
     )?;
     Ok(())
