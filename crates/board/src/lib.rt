@@ -1,5 +1,7 @@
 //! The ten outputs of a detector head: two supplies, two heaters, six timed lines. `Board` is what every make of
 //! board means; `PortBoard` and `ChainBoard` are two makes, and `Crossed` stands on any board and is one again.
+#![tactic(auto)]
+
 ghost use Rattle.std.specs.Prelude.{◌≡◌, ◌≤◌, false, slice_index, slice_index_or};
 ghost use Rattle.board.specs.Meaning.{Outputs, Whole, Leaves, with_supply, with_heater, with_line};
 ghost use Rattle.board.specs.Faults.{reply};

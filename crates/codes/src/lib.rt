@@ -1,4 +1,6 @@
 //! What every layer says when it refuses or notes something: a report, and the entry of a report in the log.
+#![tactic(auto)]
+
 use std::fmt;
 
 /// Where a thing went wrong (layer), what it was (code), at which octet, index or check (place), and for which

@@ -1,5 +1,7 @@
 //! The head of a detector: modes, critical commands with their confirms, timed drives, checks and the safe state,
 //! over any board.
+#![tactic(auto)]
+
 mod accept;
 mod checks;
 mod fault;

@@ -1,5 +1,7 @@
 //! Drives a head by a script: reads a count and as many event lines from standard input, powers a head on, brings it
 //! the events, and prints a line for each.
+#![tactic(auto)]
+
 mod drive;
 mod input;
 

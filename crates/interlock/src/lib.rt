@@ -1,4 +1,6 @@
 //! Runs of a head, event by event, and what holds over every run: the interlocks.
+#![tactic(auto)]
+
 mod run;
 mod step;
 mod tried;

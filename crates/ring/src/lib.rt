@@ -1,4 +1,6 @@
 //! A ring keeps the newest records in memory that its user lends it.
+#![tactic(auto)]
+
 ghost use Rattle.std.specs.Prelude.{◌<◌, ◌≤◌, length};
 
 mod records;

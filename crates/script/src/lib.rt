@@ -1,4 +1,6 @@
 //! The text of a script of events: the lines that are read, and the lines that are written.
+#![tactic(auto)]
+
 mod decimals;
 mod event;
 mod hexadecimal;

@@ -1,4 +1,6 @@
 //! Telecommands: the way from the octets on two links to one command, and from a command back to its octets.
+#![tactic(auto)]
+
 mod command;
 mod fault;
 mod kinds;

@@ -1,5 +1,7 @@
 //! Trials of the layers below: what they do on examples, each proved and then run. `counting` is also the example of
 //! how a board is added.
+#![tactic(auto)]
+
 #[cfg(test)]
 mod boards;
 #[cfg(test)]

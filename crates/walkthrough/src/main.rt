@@ -1,5 +1,7 @@
 //! One task from beginning to end: a release is commanded, the link is checked, the command is taken off the good
 //! link, and a head fires it, once its confirm has come. Then the high voltage fails, and the head goes to SAFE.
+#![tactic(auto)]
+
 mod frames;
 mod links;
 mod narration;
