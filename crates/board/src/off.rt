@@ -6,7 +6,7 @@ use super::{Board, LineState};
 
 /// Sets each of the ten outputs off, once.
 pub fn all_off<B: Board>(board: &mut B)
-    ensures { Leaves means board.old board.new dark }
+    ensures { Leaves B.means board.old board.new dark }
 {
     for i in 0..2 {
         let _ = board.set_supply(i, 0);

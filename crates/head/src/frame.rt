@@ -64,7 +64,7 @@ impl Core {
 impl<B: Board> Head<B> {
     // A confirmed order acts.
     fn act(&mut self, order: Order)
-        ensures { state_of means self.new ≡ acts order (state_of means self.old) }
+        ensures { state_of B.means self.new ≡ acts order (state_of B.means self.old) }
     {
         match order {
             Order::SetParameter(index, value) => {
@@ -85,7 +85,7 @@ impl<B: Board> Head<B> {
 
     // An accepted request is carried out, where this was taken out of waiting.
     fn carry_out(&mut self, taken: Option<Waiting>, request: Request)
-        ensures { state_of means self.new ≡ done taken request (state_of means self.old) }
+        ensures { state_of B.means self.new ≡ done taken request (state_of B.means self.old) }
     {
         match request {
             Request::Nothing => {}
@@ -121,7 +121,7 @@ impl<B: Board> Head<B> {
     // A request is judged, what there is to note is noted, and it is carried out where it is accepted.
     fn request(&mut self, request: Request, log: &mut Ring<Entry>) -> Result<(), Fault>
         ensures answer { result ≡ judged self.old.core request }
-        ensures became { state_of means self.new ≡ answered result request (state_of means self.old) }
+        ensures became { state_of B.means self.new ≡ answered result request (state_of B.means self.old) }
         ensures noted { roll_of log.new ≡ own_log self.old.core.meters.time result (loss_log self.old.core.meters.time self.old.core.waiting (is_unsaid result request) (roll_of log.old)) }
     {
         let answer = self.core.judge(request);
@@ -136,7 +136,7 @@ impl<B: Board> Head<B> {
 
     // What the links hold is no command: what waits is lost.
     fn unread(&mut self, fault: Fault, log: &mut Ring<Entry>)
-        ensures became { state_of means self.new ≡ taken_out (state_of means self.old) }
+        ensures became { state_of B.means self.new ≡ taken_out (state_of B.means self.old) }
         ensures noted { roll_of log.new ≡ refused self.old.core.meters.time fault (loss_log self.old.core.meters.time self.old.core.waiting false (roll_of log.old)) }
     {
         self.core.note_loss(false, log);
@@ -152,7 +152,7 @@ impl<B: Board> Head<B> {
         log: &mut Ring<Entry>,
     ) -> Result<(), Fault>
         ensures answer { result ≡ frame_answer primary.now redundant.now self.old.core }
-        ensures became { state_of means self.new ≡ framed primary.now redundant.now (state_of means self.old) }
+        ensures became { state_of B.means self.new ≡ framed primary.now redundant.now (state_of B.means self.old) }
         ensures noted { roll_of log.new ≡ frame_log primary.now redundant.now self.old.core (roll_of log.old) }
     {
         if primary.is_empty() && redundant.is_empty() {

@@ -51,7 +51,7 @@ impl<B: Board> Head<B> {
         log: &mut Ring<Entry>,
         rates: &mut Ring<u16>,
     ) -> Head<B>
-        ensures became { state_of means result ≡ powered_on stored }
+        ensures became { state_of B.means result ≡ powered_on stored }
         ensures noted { roll_of log.new ≡ restored_log 25 stored (emptied (roll_of log.old)) }
         ensures rates { roll_of rates.new ≡ emptied (roll_of rates.old) }
     {

@@ -50,7 +50,7 @@ impl Core {
 impl<B: Board> Head<B> {
     // Puts a line on and latches its ticks.
     pub(super) fn start(&mut self, line: u8, ticks: u16)
-        ensures { state_of means self.new ≡ starts line ticks (state_of means self.old) }
+        ensures { state_of B.means self.new ≡ starts line ticks (state_of B.means self.old) }
     {
         let _ = self.board.set_line(line, LineState::On);
         self.core.drive = Some(Drive { line, left: ticks });
@@ -58,7 +58,7 @@ impl<B: Board> Head<B> {
 
     // Supplies and heaters off, and what waits is dropped.
     fn darken(&mut self)
-        ensures { state_of means self.new ≡ darkened (state_of means self.old) }
+        ensures { state_of B.means self.new ≡ darkened (state_of B.means self.old) }
     {
         let _ = self.board.set_supply(0, 0);
         let _ = self.board.set_supply(1, 0);
@@ -69,7 +69,7 @@ impl<B: Board> Head<B> {
 
     // Ends a drive that does not close the door.
     fn end_drive(&mut self)
-        ensures { state_of means self.new ≡ ended (state_of means self.old) }
+        ensures { state_of B.means self.new ≡ ended (state_of B.means self.old) }
     {
         if let Some(drive) = self.core.drive {
             if drive.line != CLOSING {
@@ -81,7 +81,7 @@ impl<B: Board> Head<B> {
 
     // Closes the door where the parameters ask for it and no closing runs.
     fn shut_door(&mut self)
-        ensures { state_of means self.new ≡ shut (state_of means self.old) }
+        ensures { state_of B.means self.new ≡ shut (state_of B.means self.old) }
     {
         if let None = self.core.drive {
             if self.core.parameters[CLOSE_ON_SAFE] == 1 {
@@ -93,7 +93,7 @@ impl<B: Board> Head<B> {
 
     // The effects of an entry into SAFE.
     fn enter_safe(&mut self)
-        ensures { state_of means self.new ≡ secured (state_of means self.old) }
+        ensures { state_of B.means self.new ≡ secured (state_of B.means self.old) }
     {
         self.darken();
         self.end_drive();
@@ -103,7 +103,7 @@ impl<B: Board> Head<B> {
     // Steps the mode; an entry into SAFE has its effects. Says whether it was one.
     pub(super) fn turn(&mut self, turn: Turn) -> bool
         ensures entry { result ≡ is_entry self.old.core.mode turn }
-        ensures became { state_of means self.new ≡ turned turn (state_of means self.old) }
+        ensures became { state_of B.means self.new ≡ turned turn (state_of B.means self.old) }
     {
         let entry = self.core.mode.step(turn);
         if entry {

@@ -30,7 +30,7 @@ impl Core {
 impl<B: Board> Head<B> {
     // The larger set point, as the board reads it.
     fn set_point(&self) -> u8
-        ensures { result ≡ set_point (means self.now.board) }
+        ensures { result ≡ set_point (B.means self.now.board) }
     {
         let first = self.board.supply(0).unwrap_or(0);
         let other = self.board.supply(1).unwrap_or(0);
@@ -39,7 +39,7 @@ impl<B: Board> Head<B> {
 
     // Counts the failures of each check.
     fn count(&mut self, sample: Sample)
-        ensures { state_of means self.new ≡ counts_are (counts_after sample (state_of means self.old)) (state_of means self.old) }
+        ensures { state_of B.means self.new ≡ counts_are (counts_after sample (state_of B.means self.old)) (state_of B.means self.old) }
     {
         let set_point = self.set_point();
         let parameters = &self.core.parameters;
@@ -59,7 +59,7 @@ impl<B: Board> Head<B> {
 
     // What a check that trips does: the safety timer is set, and with override 0 the mode turns.
     pub(super) fn trip(&mut self, lowest: Option<Check>, log: &mut Ring<Entry>)
-        ensures became { state_of means self.new ≡ tripped lowest (state_of means self.old) }
+        ensures became { state_of B.means self.new ≡ tripped lowest (state_of B.means self.old) }
         ensures noted { roll_of log.new ≡ trip_log lowest self.old.core (roll_of log.old) }
     {
         let Some(check) = lowest else {
@@ -77,8 +77,8 @@ impl<B: Board> Head<B> {
     /// A sample of voltages and currents: each check that finds it out counts a failure, and trips when its count has
     /// reached its limit.
     pub fn sample(&mut self, sample: Sample, log: &mut Ring<Entry>)
-        ensures became { state_of means self.new ≡ sampled sample (state_of means self.old) }
-        ensures noted { roll_of log.new ≡ sample_log sample (state_of means self.old) (roll_of log.old) }
+        ensures became { state_of B.means self.new ≡ sampled sample (state_of B.means self.old) }
+        ensures noted { roll_of log.new ≡ sample_log sample (state_of B.means self.old) (roll_of log.old) }
     {
         self.count(sample);
         let lowest = self.core.count_trip();

@@ -30,7 +30,7 @@ impl Core {
 impl<B: Board> Head<B> {
     // The clock goes on by a second.
     fn clock(&mut self, mark: Mark)
-        ensures { state_of means self.new ≡ clocked mark (state_of means self.old) }
+        ensures { state_of B.means self.new ≡ clocked mark (state_of B.means self.old) }
     {
         self.core.meters.time = self.core.meters.time.wrapping_add(1);
         self.core.meters.tick = 0;
@@ -47,8 +47,8 @@ impl<B: Board> Head<B> {
         rates: &mut Ring<u16>,
     ) -> Result<(), Fault>
         ensures answer { result ≡ second_answer mark }
-        ensures became { state_of means self.new ≡ seconded mark (state_of means self.old) }
-        ensures noted { roll_of log.new ≡ second_log mark (state_of means self.old) (roll_of log.old) }
+        ensures became { state_of B.means self.new ≡ seconded mark (state_of B.means self.old) }
+        ensures noted { roll_of log.new ≡ second_log mark (state_of B.means self.old) (roll_of log.old) }
         ensures rated { roll_of rates.new ≡ second_rates mark self.old.core (roll_of rates.old) }
     {
         if mark.raw > LARGEST_RAW {

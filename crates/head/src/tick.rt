@@ -36,7 +36,7 @@ impl<B: Board> Head<B> {
     /// One tick more: what waits and what is driven come nearer to their end, and what is due is answered.
     pub fn tick(&mut self, log: &mut Ring<Entry>) -> Due
         ensures answer { result ≡ due_at ((self.old.core.meters.tick + 1) % 200) }
-        ensures became { state_of means self.new ≡ ticked (state_of means self.old) }
+        ensures became { state_of B.means self.new ≡ ticked (state_of B.means self.old) }
         ensures noted { roll_of log.new ≡ tick_log self.old.core (roll_of log.old) }
     {
         self.core.meters.tick = following(self.core.meters.tick);

@@ -37,7 +37,7 @@ pub(super) fn outcome(kind: Kind, shown: Shown) -> Outcome
 
 // What is printed of power-on.
 pub(super) fn power_on_outcome<B: Board>(head: &Head<B>) -> Outcome
-    ensures { result ≡ printed_first (state_of means head.now) }
+    ensures { result ≡ printed_first (state_of B.means head.now) }
 {
     outcome(Kind::PowerOn, readings(head))
 }
@@ -49,7 +49,7 @@ fn bring_one<B: Board>(
     log: &mut Ring<Entry>,
     rates: &mut Ring<u16>,
 ) -> Shown
-    ensures { Brought 1 (event_of event.entry) (state_of means head.old) (state_of means head.new) (roll_of log.old) (roll_of log.new) (roll_of rates.old) (roll_of rates.new) result }
+    ensures { Brought 1 (event_of event.entry) (state_of B.means head.old) (state_of B.means head.new) (roll_of log.old) (roll_of log.new) (roll_of rates.old) (roll_of rates.new) result }
 {
     let mut steps = [Step::new(event)];
     bring(head, &mut steps, log, rates);
@@ -65,7 +65,7 @@ fn bring_times<B: Board>(
     rates: &mut Ring<u16>,
 ) -> Shown
     requires { 0 < times }
-    ensures { Brought times (event_of event.entry) (state_of means head.old) (state_of means head.new) (roll_of log.old) (roll_of log.new) (roll_of rates.old) (roll_of rates.new) result }
+    ensures { Brought times (event_of event.entry) (state_of B.means head.old) (state_of B.means head.new) (roll_of log.old) (roll_of log.new) (roll_of rates.old) (roll_of rates.new) result }
 {
     for _n in 1..times {
         let _ = bring_one(head, event, log, rates);
@@ -81,7 +81,7 @@ pub(super) fn bring_line<B: Board>(
     rates: &mut Ring<u16>,
 ) -> Shown
     requires { InRange line.now }
-    ensures { Brought (times_in line.now) (event_in line.now) (state_of means head.old) (state_of means head.new) (roll_of log.old) (roll_of log.new) (roll_of rates.old) (roll_of rates.new) result }
+    ensures { Brought (times_in line.now) (event_in line.now) (state_of B.means head.old) (state_of B.means head.new) (roll_of log.old) (roll_of log.new) (roll_of rates.old) (roll_of rates.new) result }
 {
     match line {
         EventLine::Frame(octets) => bring_one(

@@ -76,13 +76,13 @@ fn fault_of(answer: Result<(), Fault>) -> Option<Report>
 // Whether a line is on, by the board's own answer.
 fn line_on<B: Board>(board: &B, which: u8) -> bool
     requires { which < 6 }
-    ensures { result ≡ is_on (slice_index_or (means board.now).lines which Off) }
+    ensures { result ≡ is_on (slice_index_or (B.means board.now).lines which Off) }
 {
     board.line(which).unwrap_or(LineState::Off).is_on()
 }
 
 fn lines<B: Board>(board: &B) -> [bool; 6]
-    ensures { result ≡ lines_read (means board.now) }
+    ensures { result ≡ lines_read (B.means board.now) }
 {
     [
         line_on(board, 0),
@@ -96,7 +96,7 @@ fn lines<B: Board>(board: &B) -> [bool; 6]
 
 // How head and board read, beside an answer.
 fn read<B: Board>(head: &Head<B>, fault: Option<Report>, due: Due) -> Shown
-    ensures { result ≡ reading fault due (state_of means head.now) }
+    ensures { result ≡ reading fault due (state_of B.means head.now) }
 {
     let board = head.board();
     Shown {
@@ -115,7 +115,7 @@ fn read<B: Board>(head: &Head<B>, fault: Option<Report>, due: Due) -> Shown
 
 /// How head and board read now, with no answer and nothing due.
 pub fn readings<B: Board>(head: &Head<B>) -> Shown
-    ensures { result ≡ reading None not_due (state_of means head.now) }
+    ensures { result ≡ reading None not_due (state_of B.means head.now) }
 {
     read(head, None, NOT_DUE)
 }
@@ -127,10 +127,10 @@ pub(super) fn bring_one<B: Board>(
     log: &mut Ring<Entry>,
     rates: &mut Ring<u16>,
 ) -> Shown
-    ensures shown { result ≡ shown_of (state_of means head.old) (event_of event.entry) }
-    ensures became { state_of means head.new ≡ next (state_of means head.old) (event_of event.entry) }
-    ensures noted { roll_of log.new ≡ log_after (state_of means head.old) (event_of event.entry) (roll_of log.old) }
-    ensures rated { roll_of rates.new ≡ rates_after (state_of means head.old) (event_of event.entry) (roll_of rates.old) }
+    ensures shown { result ≡ shown_of (state_of B.means head.old) (event_of event.entry) }
+    ensures became { state_of B.means head.new ≡ next (state_of B.means head.old) (event_of event.entry) }
+    ensures noted { roll_of log.new ≡ log_after (state_of B.means head.old) (event_of event.entry) (roll_of log.old) }
+    ensures rated { roll_of rates.new ≡ rates_after (state_of B.means head.old) (event_of event.entry) (roll_of rates.old) }
 {
     match event {
         Event::Tick => {

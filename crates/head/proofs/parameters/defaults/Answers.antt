@@ -6,7 +6,7 @@ use Rattle.head.proofs.Halfway.{wrote}
 use Rattle.head.proofs.parameters.defaults.Goals as goal
 
 pub loop-i-preserved : goal.loop-i-preserved
-loop-i-preserved c = wrote _ _ _ _ _ _ c.loop-i.invariant _ (omega arith) (ap (λ (r : Range). r.default) c.range-of.ensures)
+loop-i-preserved c = wrote _ _ _ _ _ _ c.loop-i.invariant _ (omega arith) (ap (λ (r : Range). r.default) c.range_of.ensures)
 
 pub returns : goal.returns
 returns c =

@@ -10,8 +10,8 @@ loop-i-init g c = ran_none _ _ _ _
 
 pub loop-i-preserved : goal.loop-i-preserved
 loop-i-preserved g c =
-    let one = c.bring-one-shown.ensures in
-    ran_more c.loop-i.i c.args.steps.now c.loop-i.steps c.bring-one-shown.result (omega arith) _ _ _ _ _ _ _ _ _ _ refl one.shown one.became one.noted one.rated c.loop-i.invariant
+    let one = c.bring_one-shown.ensures in
+    ran_more c.loop-i.i c.args.steps.now c.loop-i.steps c.bring_one-shown.result (omega arith) _ _ _ _ _ _ _ _ _ _ refl one.shown one.became one.noted one.rated c.loop-i.invariant
 
 pub returns : goal.returns
 returns g c =

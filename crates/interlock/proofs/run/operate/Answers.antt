@@ -12,7 +12,7 @@ none (suc n) = refl
 
 pub returns : goal.returns
 returns g c =
-    let on = c.power-on-head.ensures in
+    let on = c.power_on-head.ensures in
     let first = begins c.args.stored ∷ [] in
     let led = subst (Follows first) (sym on.became) (begun c.args.stored) in
     let bare : RatesHeld first (emptied (roll_of c.args.rates.now)) = none (roll_of c.args.rates.now).room in

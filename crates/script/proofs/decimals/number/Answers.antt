@@ -4,16 +4,16 @@ use Rattle.script.specs.Numbers.{plain}
 use Rattle.script.proofs.Numerals.{decimal_plain, read_decimal, reads_back}
 use Rattle.script.proofs.decimals.number.Goals as goal
 
-pub returns-then-not-is-plain : goal.returns-then-not-is-plain
-returns-then-not-is-plain c n h e =
-    both_ways (plain c.args.text.now) (ap plain (sym c.as-bytes.ensures.value) ∙ sym c.if-not-is-plain.ensures)
+pub returns-then-not-is_plain : goal.returns-then-not-is_plain
+returns-then-not-is_plain c n h e =
+    both_ways (plain c.args.text.now) (ap plain (sym c.as_bytes.ensures.value) ∙ sym c.if-not-is_plain.ensures)
     (ap plain (sym e) ∙ decimal_plain n (omega arith))
 
 pub returns-then-n-most : goal.returns-then-n-most
 returns-then-n-most c = (
   c.if-n-most.true,
   read_decimal c.args.text.now c.parse.result c.parse.ensures.value.0
-      (ap plain (sym c.as-bytes.ensures.value) ∙ sym c.if-not-is-plain.ensures) c.in-Ok.n c.in-Ok.is,
+      (ap plain (sym c.as_bytes.ensures.value) ∙ sym c.if-not-is_plain.ensures) c.in-Ok.n c.in-Ok.is,
 )
 
 pub returns-else-n-most : goal.returns-else-n-most

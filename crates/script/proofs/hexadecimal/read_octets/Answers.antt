@@ -15,8 +15,8 @@ returns-then-text-eq0 c o h e =
       | then-text-eq0-via-else-text-eq0+else-text-gt128+then-text-ne0 w ↦ omega (arith, n.0, w.if-text-ne0.true)
     ]
 
-pub returns-in-default : goal.returns-in-default
-returns-in-default c o h e = none_at o c.args.text.now c.loop-i.i (omega arith) c.in-default.ensures h e
+pub returns-in_default : goal.returns-in_default
+returns-in_default c o h e = none_at o c.args.text.now c.loop-i.i (omega arith) c.in_default.ensures h e
 
 pub loop-i-preserved : goal.loop-i-preserved
 loop-i-preserved c =

@@ -7,14 +7,14 @@ use Rattle.script.proofs.outcome.sum_of_bits.Goals as goal
 pub loop-i-init : goal.loop-i-init
 loop-i-init c = sym (ap sum_of_bits (drop_all (length c.args.on.now) c.args.on.now (omega arith)))
 
-pub overflow-mul-sum : goal.overflow-mul-sum
-overflow-mul-sum c =
+pub overflow_mul-sum : goal.overflow_mul-sum
+overflow_mul-sum c =
     let rest = drop c.loop-i.i c.args.on.now in
     let few = length-drop c.loop-i.i c.args.on.now in
     omega (arith, c.loop-i.invariant, sum_lt rest 7 (omega arith))
 
-pub overflow-add-sum : goal.overflow-add-sum
-overflow-add-sum c =
+pub overflow_add-sum : goal.overflow_add-sum
+overflow_add-sum c =
     let rest = drop c.loop-i.i c.args.on.now in
     let few = length-drop c.loop-i.i c.args.on.now in
     omega (arith, c.loop-i.invariant, sum_lt rest 7 (omega arith), bit_le (get_or c.args.on.now (c.loop-i.i - 1) false))

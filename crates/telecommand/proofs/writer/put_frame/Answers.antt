@@ -8,6 +8,6 @@ pub returns : goal.returns
 returns c =
     let ws = c.args.words.now in
     let part = c.args.part.now in
-    put_two 6 (2 + 2 * length ws) part (header 0x11 0x01 c.args.count (1 + 2 * length ws)) c.copy-from-slice.new.self (octets (c.args.opcode ∷ ws)) c.put-data.new.part
-    (c.copy-from-slice.ensures.after ∙ c.header.ensures) refl c.put-data.ensures
+    put_two 6 (2 + 2 * length ws) part (header 0x11 0x01 c.args.count (1 + 2 * length ws)) c.copy_from_slice.new.self (octets (c.args.opcode ∷ ws)) c.put_data.new.part
+    (c.copy_from_slice.ensures.after ∙ c.header.ensures) refl c.put_data.ensures
     ∙ ap (λ (n : ℕ). frame_of c.args.opcode ws c.args.count ++ drop n part) (omega arith)

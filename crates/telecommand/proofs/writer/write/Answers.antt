@@ -8,7 +8,7 @@ pub returns : goal.returns
 returns c =
     let ws = c.args.words.now in
     let f = frame_of c.args.opcode ws c.args.count in
-    let e = put_front c.args.from (8 + 2 * length ws) c.args.buffer.now c.put-frame.new.part f c.put-frame.ensures in
+    let e = put_front c.args.from (8 + 2 * length ws) c.args.buffer.now c.put_frame.new.part f c.put_frame.ensures in
     record {
       answer = search rules;
       stays = e;
