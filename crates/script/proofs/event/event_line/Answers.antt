@@ -48,6 +48,6 @@ returns-in_default-letter c = record {
       let same = c.in-Ok.ensures.cases.0 in
       let got = split_letter c.in-Ok.text.now c.split_once.result c.split_once.ensures.cases x (e ∙ sym same) in
       let at = simp c.in-Some.is at got in
-      other_letter x c.in-Some.letter.now at.0 c.in_default-letter.not-F c.in_default-letter.not_T c.in_default-letter.not-H c.in_default-letter.not-S;
+      other_letter x c.in-Some.letter.now at.0 c.in_default-letter.not-F c.in_default-letter.not-T c.in_default-letter.not-H c.in_default-letter.not-S;
   only = tt;
 }
