@@ -51,7 +51,7 @@ fn a_good_frame_is_taken(rt: HostRuntime) -> Result<(), Fail> {
     let Command::FireRelease(words) = read(&[], &counted)? else {
         return Err(Fail::new("another command was read"));
     };
-    assert_eq!(rt; words, &[0x02, 0x28]);
+    assert_eq!(rt; words, [0x02, 0x28].as_slice());
     Ok(())
 }
 
@@ -91,8 +91,8 @@ fn aside_of(primary: &[u8], redundant: &[u8]) -> Option<(u8, u16)> {
 
 #[test]
 fn the_primary_comes_first(rt: HostRuntime) -> Result<(), Fail> {
-    assert_eq!(rt; choose(&GOOD, &SHORT)?, &[0x66, 0x01]);
-    assert_eq!(rt; choose(&STRANGE, &GOOD)?, &[0x66, 0x01]);
+    assert_eq!(rt; choose(&GOOD, &SHORT)?, [0x66, 0x01].as_slice());
+    assert_eq!(rt; choose(&STRANGE, &GOOD)?, [0x66, 0x01].as_slice());
     assert_eq!(rt; fault_of(&STRANGE, &SHORT), Some((0x10, 0)));
     assert_eq!(rt; fault_of(&STRANGE, &[]), Some((0x10, 0)));
     assert_eq!(rt; fault_of(&[], &STRANGE), Some((0x10, 0)));

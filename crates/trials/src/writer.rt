@@ -46,6 +46,6 @@ fn what_is_written_is_read(rt: HostRuntime) -> Result<(), Fail> {
     let Command::Confirm(words) = read(&buffer[3..15], &[])? else {
         return Err(Fail::new("another command was read"));
     };
-    assert_eq!(rt; words, &[0x66, 0x12, 0x99, 0xED]);
+    assert_eq!(rt; words, [0x66, 0x12, 0x99, 0xED].as_slice());
     Ok(())
 }

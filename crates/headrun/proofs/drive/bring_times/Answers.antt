@@ -9,14 +9,14 @@ use Rattle.headrun.proofs.drive.bring_times.Goals as goal
 pub loop-n-preserved : goal.loop-n-preserved
 loop-n-preserved g c =
     let m = g.B.Board.means in
-    let count : suc (c.loop-n.-n - 1) ≡ c.loop-n.-n + 1 - 1 = omega arith in
-    let all = once_more (c.loop-n.-n - 1) _ _ _ _ _ _ _ _ _ _ _ c.loop-n.invariant c.bring_one.ensures in
+    let count : suc (c.loop-n._n - 1) ≡ c.loop-n._n + 1 - 1 = omega arith in
+    let all = once_more (c.loop-n._n - 1) _ _ _ _ _ _ _ _ _ _ _ c.loop-n.invariant c.bring_one.ensures in
     let more = subst (λ (n : ℕ). Brought n (event_of c.args.event) (state_of m c.args.head.now) (state_of m c.bring_one.new.head) (roll_of c.args.log.now) (roll_of c.bring_one.new.log) (roll_of c.args.rates.now) (roll_of c.bring_one.new.rates) c.bring_one.result) count all in
     (more.ends, more.logged, more.rated)
 
 pub returns : goal.returns
 returns g c =
     let m = g.B.Board.means in
-    let count : suc (c.loop-n.-n - 1) ≡ c.args.times = omega arith in
-    let all = once_more (c.loop-n.-n - 1) _ _ _ _ _ _ _ _ _ _ _ c.loop-n.invariant c.bring_one-2.ensures in
+    let count : suc (c.loop-n._n - 1) ≡ c.args.times = omega arith in
+    let all = once_more (c.loop-n._n - 1) _ _ _ _ _ _ _ _ _ _ _ c.loop-n.invariant c.bring_one-2.ensures in
     subst (λ (n : ℕ). Brought n (event_of c.args.event) (state_of m c.args.head.now) (state_of m c.bring_one-2.new.head) (roll_of c.args.log.now) (roll_of c.bring_one-2.new.log) (roll_of c.args.rates.now) (roll_of c.bring_one-2.new.rates) c.bring_one-2.result) count all

@@ -11,6 +11,6 @@ invariant-loop-n g l =
     let m = g.B.Board.means in
     let s = state_of m l.initial.head in
     let e = event_of l.event in
-    (state_of m l.head ≡ after_times (l.-n - 1) e s)
-    × (roll_of l.log ≡ log_times (l.-n - 1) e s (roll_of l.initial.log))
-    × (roll_of l.rates ≡ rates_times (l.-n - 1) e s (roll_of l.initial.rates))
+    (state_of m l.head ≡ after_times (l._n - 1) e s)
+    × (roll_of l.log ≡ log_times (l._n - 1) e s (roll_of l.initial.log))
+    × (roll_of l.rates ≡ rates_times (l._n - 1) e s (roll_of l.initial.rates))
