@@ -19,7 +19,7 @@ use Rattle.head.specs.declared.fault.Fault.TheVariants.{RawCount}
 use Rattle.head.specs.declared.safe.Turn.TheVariants.{Trip}
 use Rattle.interlock.specs.Events.{mark}
 use Rattle.interlock.specs.Runs.{fault_of}
-use Rattle.interlock.specs.History.{Did, Past, Accepted, IsFrame, EntersSafe, SampleTrips, Counts, RawIs, RateIs, MarkTrips, Trips, TripsAt}
+use Rattle.interlock.specs.History.{Did, Past, Accepted, IsFrame, EntersSafe, SampleTrips, Counts, RawIs, RateIs, MarkTrips, Trips, check_above, TripsAt}
 use Rattle.interlock.specs.declared.step.Shown.{Shown}
 use Rattle.interlock.proofs.Agos.{ago_now, ago_later, ago_cases}
 use Rattle.interlock.proofs.Deeds.{Now, Deed, rests, enters, kind, lasts, Is, Told}
@@ -65,16 +65,14 @@ module _ (x : Mark) (y : Shown) (s : State) (h : Past) (k : Now h s) (ls : LastI
   abbrev trips : List Bool
   trips = mark_trips x s.core
 
-  trip_by : (c : ℕ) → masked ps c ≡ false → ((c ≡ 3) × (256 * get_or ps 10 0 < now_rate)) ⊎ ((c ≡ 4) × (warm ps x.temperatures ≡ true)) → MarkTrips M h
-  trip_by c un above = record {
-    check = c;
+  trip_by : ((masked ps 3 ≡ false) × (256 * get_or ps 10 0 < now_rate)) ⊎ ((masked ps 4 ≡ false) × (warm ps x.temperatures ≡ true)) → MarkTrips M h
+  trip_by above = record {
     marked = x;
     params = ps;
     rate_then = now_rate;
     came_in = (refl, ok);
     in_force = params_in_force s h k;
     rate_is = rate_read s.core.meters.last x.raw h ls;
-    unmasked = un;
     above = above;
   }
 
@@ -84,28 +82,27 @@ module _ (x : Mark) (y : Shown) (s : State) (h : Past) (k : Now h s) (ls : LastI
   trip_from zero e = absurd (both_ways false refl e)
   trip_from (suc zero) e = absurd (both_ways false refl e)
   trip_from (suc (suc zero)) e = absurd (both_ways false refl e)
-  trip_from (suc (suc (suc zero))) e = let a = and_parts (not (masked ps 3)) _ e in inr (trip_by 3 (not-true _ a.0) (inl (refl, ltb-true _ _ a.1)), refl)
-  trip_from (suc (suc (suc (suc zero)))) e = let a = and_parts (not (masked ps 4)) _ e in inr (trip_by 4 (not-true _ a.0) (inr (refl, a.1)), refl)
+  trip_from (suc (suc (suc zero))) e = let a = and_parts (not (masked ps 3)) _ e in inr (trip_by (inl (not-true _ a.0, ltb-true _ _ a.1)), refl)
+  trip_from (suc (suc (suc (suc zero)))) e = let a = and_parts (not (masked ps 4)) _ e in inr (trip_by (inr (not-true _ a.0, a.1)), refl)
   trip_from (suc (suc (suc (suc (suc c))))) e = absurd (both_ways false refl e)
 
   -- and the other way round
-  trip_to : (q : MarkTrips M h) → get_or trips q.check false ≡ true
+  trip_to : (q : MarkTrips M h) → get_or trips (check_above q.above) false ≡ true
   trip_to q =
       let force = params_same q.params s h k q.in_force in
       let came = q.came_in.0 in
       let same : q.marked ≡ x = cc in
       let rt : q.rate_then ≡ now_rate = rate_one s.core.meters.last q.marked.raw q.rate_then h ls q.rate_is ∙ ap (λ (z : Mark). rate_at s.core.meters.last z.raw) same in
-      let m : masked ps q.check ≡ false = subst (λ (l : List ℕ). masked l q.check ≡ false) force q.unmasked in
-      ⊎_elim
-      (λ a.
-      let m3 : masked ps 3 ≡ false = subst (λ (c : ℕ). masked ps c ≡ false) a.0 m in
-      let over : 256 * get_or ps 10 0 < now_rate = subst (λ (l : List ℕ). 256 * get_or l 10 0 < now_rate) force (subst (λ (z : ℕ). 256 * get_or q.params 10 0 < z) rt a.1) in
-      ap (λ (c : ℕ). get_or trips c false) a.0 ∙ ap (λ (b : Bool). not b && ltb (256 * get_or ps 10 0) now_rate) m3 ∙ lt-ltb _ _ over)
-      (λ a.
-      let m4 : masked ps 4 ≡ false = subst (λ (c : ℕ). masked ps c ≡ false) a.0 m in
-      let hot : warm ps x.temperatures ≡ true = ap (λ (z : Mark). warm ps z.temperatures) (sym same) ∙ subst (λ (l : List ℕ). warm l q.marked.temperatures ≡ true) force a.1 in
-      ap (λ (c : ℕ). get_or trips c false) a.0 ∙ ap (λ (b : Bool). not b && warm ps x.temperatures) m4 ∙ hot)
-      q.above
+      elim q.above as (λ v. get_or trips (check_above v) false ≡ true) [
+        inl a ↦
+            let m3 : masked ps 3 ≡ false = subst (λ (l : List ℕ). masked l 3 ≡ false) force a.0 in
+            let over : 256 * get_or ps 10 0 < now_rate = subst (λ (l : List ℕ). 256 * get_or l 10 0 < now_rate) force (subst (λ (z : ℕ). 256 * get_or q.params 10 0 < z) rt a.1) in
+            ap (λ (b : Bool). not b && ltb (256 * get_or ps 10 0) now_rate) m3 ∙ lt-ltb _ _ over
+        | inr a ↦
+            let m4 : masked ps 4 ≡ false = subst (λ (l : List ℕ). masked l 4 ≡ false) force a.0 in
+            let hot : warm ps x.temperatures ≡ true = ap (λ (z : Mark). warm ps z.temperatures) (sym same) ∙ subst (λ (l : List ℕ). warm l q.marked.temperatures ≡ true) force a.1 in
+            ap (λ (b : Bool). not b && warm ps x.temperatures) m4 ∙ hot
+      ]
 
   unread : (op : ℕ) (ws : List ℕ) → Accepted op ws (M ∷ h) → ⊥
   unread op ws a = let e = a.0.came_in in let z : ◌≡◌ {A = ℕ} 0 1 = cc in omega arith

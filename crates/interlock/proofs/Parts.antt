@@ -8,7 +8,8 @@ use Rattle.head.specs.declared.Order.TheVariants.{SetSupply}
 use Rattle.head.specs.declared.Waiting.{Waiting}
 use Rattle.head.specs.declared.Drive.{Drive}
 use Rattle.head.specs.Requests.{order_op, marked}
-use Rattle.interlock.specs.History.{Did, Past, Ago, weight, ticks, Accepted, IsFrame, Sets, ParameterIs, Leaves, InCheckout, EntersSafe, LeavesWaiting, Waits as InTime, SwitchedOn, HeatedOn, Starts, Runs}
+use Rattle.interlock.specs.History.{Did, Past, Ago, weight, ticks, Accepted, IsFrame, Sets, ParameterIs, Leaves, InCheckout, EntersSafe, LeavesWaiting, SwitchedOn, HeatedOn, Starts, Runs}
+use Rattle.interlock.specs.Promises.{Waits as InTime}
 use Rattle.interlock.proofs.Agos.{ago_none, ago_now, ago_later, ago_cases, ago_map, same_back}
 use Rattle.interlock.proofs.Orders.{order_words, Taken, GivenOrder, ConfirmedOrder, not_critical, one_command, one_taken, taken_frame}
 

@@ -4,7 +4,7 @@ use borrow.Author.Tests.{eqb-false}
 use Rattle.head.specs.State.{State}
 use Rattle.head.specs.Rolls.{Roll, Log}
 use Rattle.interlock.specs.Events.{Event, event_of}
-use Rattle.interlock.specs.Runs.{next, shown_of, log_after, rates_after, absent, step_at, event_at, state_after, kept_after, Ran}
+use Rattle.interlock.specs.Runs.{next, shown_of, log_after, rates_after, absent, step_at, event_at, state_after, log_after_all, rates_after_all, Ran}
 use Rattle.interlock.specs.History.{brought, Did, Past}
 use Rattle.interlock.specs.Promises.{came_of, Follows, gone, continued, Stands, RatesHeld}
 use Rattle.interlock.specs.Logged.{LogHeld}
@@ -46,8 +46,8 @@ module _ (i : ℕ) (bs ss : List Step) (x : Shown) (lt : i < length ss) where
             (λ j lj. let ne : j ≢ i = omega arith in ap (λ (y : Step). y.shown) (get_or-set_other ss i j (step (step_at ss i).event x) absent ne) ∙ k.shows j lj)
             (ap (λ (y : Step). y.shown) (get_or-set_same ss i (step (step_at ss i).event x) absent lt) ∙ shown ∙ ap (λ (y : State). shown_of y e) k.ends ∙ ap (shown_of u) bring);
         ends = went ∙ ap (λ (y : State). next y e) k.ends ∙ ap (next u) bring ∙ ap (λ (n : ℕ). state_after s n bs) (sym more);
-        logged = noted ∙ ap (λ (y : State). log_after y e m) k.ends ∙ ap (log_after u e) k.logged ∙ ap (λ (y : Event). log_after u y (kept_after log_after s i bs l)) bring ∙ ap (λ (n : ℕ). kept_after log_after s n bs l) (sym more);
-        rated = rated ∙ ap (λ (y : State). rates_after y e q) k.ends ∙ ap (rates_after u e) k.rated ∙ ap (λ (y : Event). rates_after u y (kept_after rates_after s i bs r)) bring ∙ ap (λ (n : ℕ). kept_after rates_after s n bs r) (sym more);
+        logged = noted ∙ ap (λ (y : State). log_after y e m) k.ends ∙ ap (log_after u e) k.logged ∙ ap (λ (y : Event). log_after u y (log_after_all s i bs l)) bring ∙ ap (λ (n : ℕ). log_after_all s n bs l) (sym more);
+        rated = rated ∙ ap (λ (y : State). rates_after y e q) k.ends ∙ ap (rates_after u e) k.rated ∙ ap (λ (y : Event). rates_after u y (rates_after_all s i bs r)) bring ∙ ap (λ (n : ℕ). rates_after_all s n bs r) (sym more);
       }
 
 -- ---- a run by the rules is a history that goes on
@@ -68,23 +68,24 @@ module _ (n : ℕ) (before after : List Step) (s t : State) (l m : Log) (r q : R
       subst (λ (d : Did). Follows (d ∷ continued h i after) (next (state_after s i before) (event_at before i))) (same_did i (omega arith)) (gone (event_at before i) (goes_on i (omega arith)))
 
   -- what each event keeps, the run keeps
-  kept_on : {K : Type 0} (Held : Past → K → Type 0) (step : State → Event → K → K) → ((e : Event) (h : Past) (s : State) (k : K) → Follows h s → Held h k → Held (came_of s e ∷ h) (step s e k)) → (k : K) (i : ℕ) → i ≤ n → Held h k → Held (continued h i after) (kept_after step s i before k)
-  kept_on Held step more k zero le held = held
-  kept_on Held step more k (suc i) le held =
+  kept_on : {K : Type 0} (Held : Past → K → Type 0) (step : State → Event → K → K) → ((e : Event) (h : Past) (s : State) (k : K) → Follows h s → Held h k → Held (came_of s e ∷ h) (step s e k))
+      → (kept : ℕ → K) → ((i : ℕ) → step (state_after s i before) (event_at before i) (kept i) ≡ kept (suc i)) → (i : ℕ) → i ≤ n → Held h (kept 0) → Held (continued h i after) (kept i)
+  kept_on Held step more kept goes zero le held = held
+  kept_on Held step more kept goes (suc i) le held =
       let u = state_after s i before in
-      let v = kept_after step s i before k in
-      subst (λ (d : Did). Held (d ∷ continued h i after) (step u (event_at before i) v)) (same_did i (omega arith))
-      (more (event_at before i) (continued h i after) u v (goes_on i (omega arith)) (kept_on Held step more k i (omega arith) held))
+      subst (Held (continued h (suc i) after)) (goes i)
+      (subst (λ (d : Did). Held (d ∷ continued h i after) (step u (event_at before i) (kept i))) (same_did i (omega arith))
+      (more (event_at before i) (continued h i after) u (kept i) (goes_on i (omega arith)) (kept_on Held step more kept goes i (omega arith) held)))
 
   pub run_rates : n ≡ length after → RatesHeld h r → RatesHeld (continued h (length after) after) q
   run_rates e k =
       subst (λ (m : ℕ). RatesHeld (continued h m after) q) e (subst (RatesHeld (continued h n after)) (sym ran.rated)
-      (kept_on RatesHeld rates_after (λ e h s l f held. (rates_step e h s l (every f) (last_raw f) held).rates_more) r n (omega arith) k))
+      (kept_on RatesHeld rates_after (λ e h s l f held. (rates_step e h s l (every f) (last_raw f) held).rates_more) (λ i. rates_after_all s i before r) (λ i. refl) n (omega arith) k))
 
   pub run_log : n ≡ length after → LogHeld h l → LogHeld (continued h (length after) after) m
   run_log e k =
       subst (λ (j : ℕ). LogHeld (continued h j after) m) e (subst (LogHeld (continued h n after)) (sym ran.logged)
-      (kept_on LogHeld log_after (λ e h s l f held. log_step e h s l (every f) (clock f) held) l n (omega arith) k))
+      (kept_on LogHeld log_after (λ e h s l f held. log_step e h s l (every f) (clock f) held) (λ i. log_after_all s i before l) (λ i. refl) n (omega arith) k))
 
   pub run_stands : n ≡ length after → Stands (continued h (length after) after) t
   run_stands e =

@@ -18,7 +18,7 @@ use Rattle.head.specs.declared.checks.Check.TheVariants.{Plate, Strip, Anode, Ra
 use Rattle.head.specs.declared.checks.Sample.{Sample}
 use Rattle.head.specs.declared.safe.Turn.TheVariants.{Trip}
 use Rattle.interlock.specs.Events.{Event, tick, frame, sample, mark}
-use Rattle.interlock.specs.History.{Did, Past, supply_reads, Accepted, IsFrame, EntersSafe, ParameterIs, ParametersAre, Out, Row, SampleTrips, MarkTrips, Trips, TripsAt}
+use Rattle.interlock.specs.History.{Did, Past, supply_reads, Accepted, IsFrame, EntersSafe, ParameterIs, ParametersAre, Out, Row, SampleTrips, MarkTrips, Trips, check_above, TripsAt}
 use Rattle.interlock.specs.declared.step.Shown.{Shown}
 use Rattle.interlock.proofs.Counts.{CountIs, count_out, count_in}
 use Rattle.interlock.proofs.Deeds.{Now, Deed, rests, enters, kind, lasts, Is, Told}
@@ -67,7 +67,7 @@ pub trips_at : (c : ℕ) (d : Did) (h : Past) → TripsAt c (d ∷ h) → Trips 
 trips_at c d h = ⊎_elim (λ t. inl t.0) (λ t. inr t.0)
 
 pub at_trips : (d : Did) (h : Past) → Trips (d ∷ h) → (c : ℕ) × TripsAt c (d ∷ h)
-at_trips d h = ⊎_elim (λ t. (t.check, inl (t, refl))) (λ t. (t.check, inr (t, refl)))
+at_trips d h = ⊎_elim (λ t. (t.check, inl (t, refl))) (λ t. (check_above t.above, inr (t, refl)))
 
 -- ---- meters after an event
 

@@ -4,6 +4,7 @@
 --   accepted    answered without a fault
 --   confirmed   the next frame after an accepted command, both links empty aside, is an accepted confirm
 use Rattle.std.specs.Prelude.{◌≡◌, ℕ, zero, suc, ◌+◌, ◌-◌, ◌*◌, ◌<◌, ◌≤◌, max, Bool, true, false, ◌⊎◌, List, [], ◌∷◌, length, take, drop, Some, None, Ok, Option, ◌≢◌, slice_index, slice_index_or}
+use Rattle.std.proofs.Common.{inl, inr}
 use Rattle.codes.specs.declared.Report.{Report}
 use Rattle.telecommand.specs.Links.{reads}
 use Rattle.head.specs.Parameters.{restored}
@@ -224,17 +225,15 @@ RawIs n h = Ago (λ t p. Counts n p) (λ p. (m : ℕ) → Counts m p → ⊥) h
 abbrev pub RateIs : ℕ → ℕ → Past → Type 0
 RateIs r n h = ((b : ℕ) × RawIs b h × (r ≡ rate b n)) ⊎ (((b : ℕ) → RawIs b h → ⊥) × (r ≡ 0))
 
--- an accepted second mark at which the rate (check 3) or a temperature (check 4) is above its limit, not masked
+-- an accepted second mark at which the rate or a temperature is above its limit, not masked
 pub record MarkTrips (d : Did) (h : Past) : Type 0 where
-  pub check : ℕ
   pub marked : Mark
   pub params : List ℕ
   pub rate_then : ℕ
   pub came_in : Marks marked (d ∷ h)
   pub in_force : ParametersAre params h
   pub rate_is : RateIs rate_then marked.raw h
-  pub unmasked : masked params check ≡ false
-  pub above : ((check ≡ 3) × (256 * slice_index params 10 < rate_then)) ⊎ ((check ≡ 4) × (warm params marked.temperatures ≡ true))
+  pub above : ((masked params 3 ≡ false) × (256 * slice_index params 10 < rate_then)) ⊎ ((masked params 4 ≡ false) × (warm params marked.temperatures ≡ true))
 
 -- ---- modes
 
@@ -243,10 +242,15 @@ abbrev pub Trips : Past → Type 0
 Trips [] = ⊥
 Trips (d ∷ h) = SampleTrips d h ⊎ MarkTrips d h
 
+-- what is above its limit: the rate, which is check 3, or a temperature, which is check 4
+abbrev pub check_above : {A B : Type 0} → A ⊎ B → ℕ
+check_above (inl r) = 3
+check_above (inr t) = 4
+
 -- check c is one that trips
 abbrev pub TripsAt : ℕ → Past → Type 0
 TripsAt c [] = ⊥
-TripsAt c (d ∷ h) = ((t : SampleTrips d h) × (t.check ≡ c)) ⊎ ((t : MarkTrips d h) × (t.check ≡ c))
+TripsAt c (d ∷ h) = ((t : SampleTrips d h) × (t.check ≡ c)) ⊎ ((t : MarkTrips d h) × (check_above t.above ≡ c))
 
 -- the newest event is an accepted SAFE command, or a check trips at it with override 0
 abbrev pub Leaves : Past → Type 0
@@ -265,10 +269,6 @@ EntersSafe p = Leaves p × Before InCheckout p
 -- neither a frame nor an entry into SAFE
 abbrev pub LeavesWaiting : Past → Type 0
 LeavesWaiting p = (IsFrame p → ⊥) × (EntersSafe p → ⊥)
-
--- the command was accepted fewer than 2,000 ticks ago, with no frame and no entry into SAFE since
-abbrev pub Waits : ℕ → List ℕ → Past → Type 0
-Waits op ws h = Ago (λ t p. Accepted op ws p × (t < 2000)) LeavesWaiting h
 
 -- ---- the safety timer
 

@@ -2,7 +2,7 @@
 --   aside   a faulty primary link that was passed over for the redundant
 --   lost    a command that waited, and that a frame took out without carrying it out
 --   late    a command that waited for its confirm until its last tick
-use Rattle.std.specs.Prelude.{◌≡◌, ℕ, zero, suc, ◌+◌, ◌%◌, ◌^◌, ◌<◌, true, cond, ◌⊎◌, ◌↔◌, List, [], ◌∷◌, take, Some, None, Option, ◌≢◌, slice_index}
+use Rattle.std.specs.Prelude.{◌≡◌, ℕ, zero, suc, ◌+◌, ◌%◌, ◌^◌, ◌<◌, true, cond, ◌⊎◌, ◌↔◌, List, [], ◌∷◌, length, take, Some, None, Option, ◌≢◌, slice_index}
 use Rattle.codes.specs.Reports.{report}
 use Rattle.codes.specs.declared.Report.{Report}
 use Rattle.codes.specs.declared.Entry.{Entry}
@@ -12,8 +12,11 @@ use Rattle.telecommand.specs.declared.fault.ReadFault.{ReadFault}
 use Rattle.head.specs.Parameters.{allowed}
 use Rattle.head.specs.Requests.{marked}
 use Rattle.head.specs.Rolls.{Log, entry}
+use Rattle.head.specs.State.{State}
 use Rattle.interlock.specs.Events.{tick, frame}
-use Rattle.interlock.specs.History.{powered, brought, Did, Past, marks, Ago, Before, Accepted, IsFrame, TripsAt, EntersSafe, LeavesWaiting, Waits}
+use Rattle.interlock.specs.History.{powered, brought, Did, Past, marks, Ago, Before, Accepted, IsFrame, TripsAt, EntersSafe, LeavesWaiting}
+use Rattle.interlock.specs.Promises.{Waits, Follows, continued}
+use Rattle.interlock.specs.declared.step.Step.{Step}
 
 -- ---- the reports of the newest event
 
@@ -94,3 +97,7 @@ pub data Logged : Past → List Entry → Type 0 where
 -- the log holds all that was to be logged, newest first, cut at the room for it
 abbrev pub LogHeld : Past → Log → Type 0
 LogHeld h log = (all : List Entry) × Logged h all × (log.items ≡ take log.room all)
+
+-- a log that held all that was to be logged does so after the steps
+abbrev pub LogPromise : List Step → State → Log → Log → Type 0
+LogPromise steps s before after = (h : Past) → Follows h s → LogHeld h before → LogHeld (continued h (length steps) steps) after

@@ -3,14 +3,17 @@ use Rattle.std.specs.Prelude.{◌≡◌, ℕ, zero, suc, ◌+◌, ◌-◌, ◌%�
 use Rattle.telecommand.specs.Packet.{word}
 use Rattle.head.specs.Requests.{marked}
 use Rattle.head.specs.Events.{powered_on}
-use Rattle.head.specs.Rolls.{Roll, Log}
+use Rattle.head.specs.Rolls.{Roll}
 use Rattle.head.specs.State.{State}
 use Rattle.head.specs.declared.Mode.TheVariants.{Checkout}
 use Rattle.interlock.specs.Events.{Event, reading, not_due}
 use Rattle.interlock.specs.Runs.{next, shown_of, step_at, event_at}
-use Rattle.interlock.specs.History.{powered, brought, Did, Past, marks, ticks_since_mark, raws, rates_of, Always, Before, supply_reads, heater_reads, line_reads, parameter_reads, last_shown, Accepted, PowersOn, ParameterIs, InCheckout, TimerIs, Waits, SwitchedOn, HeatedOn, Runs}
-use Rattle.interlock.specs.Logged.{LogHeld}
+use Rattle.interlock.specs.History.{Came, powered, brought, Did, Past, marks, ticks_since_mark, raws, rates_of, Ago, Always, Before, supply_reads, heater_reads, line_reads, parameter_reads, last_shown, Accepted, IsFrame, PowersOn, ParameterIs, InCheckout, EntersSafe, TimerIs, SwitchedOn, HeatedOn, Starts, Runs}
 use Rattle.interlock.specs.declared.step.Step.{Step}
+
+-- the command was accepted fewer than 2,000 ticks ago, with no frame and no entry into SAFE since
+abbrev pub Waits : ℕ → List ℕ → Past → Type 0
+Waits op ws h = Ago (λ t p. Accepted op ws p × (t < 2000)) (λ p. (IsFrame p → ⊥) × (EntersSafe p → ⊥)) h
 
 -- the newest event is an accepted confirm that names this critical command: its op-code, the bitwise complement, and in time
 pub record Confirms (op : ℕ) (ws : List ℕ) (p : Past) : Type 0 where
@@ -88,7 +91,3 @@ Promise steps s t = (h : Past) → Follows h s → Stands (continued h (length s
 -- and rates that were those of the history are so after the steps
 abbrev pub RatesPromise : List Step → State → Roll ℕ → Roll ℕ → Type 0
 RatesPromise steps s before after = (h : Past) → Follows h s → RatesHeld h before → RatesHeld (continued h (length steps) steps) after
-
--- and a log that held all that was to be logged does so after the steps
-abbrev pub LogPromise : List Step → State → Log → Log → Type 0
-LogPromise steps s before after = (h : Past) → Follows h s → LogHeld h before → LogHeld (continued h (length steps) steps) after

@@ -69,15 +69,19 @@ step_at steps i = slice_index_or steps i absent
 abbrev pub event_at : List Step → ℕ → Event
 event_at steps i = event_of (step_at steps i).event
 
--- the state after the first n events
+-- the state, the log and the rates after the first n events
+
 abbrev pub state_after : State → ℕ → List Step → State
 state_after s zero steps = s
 state_after s (suc n) steps = next (state_after s n steps) (event_at steps n)
 
--- what is kept beside the state, the log or the rates, after the first n events
-abbrev pub kept_after : {K : Type 0} → (State → Event → K → K) → State → ℕ → List Step → K → K
-kept_after after s zero steps k = k
-kept_after after s (suc n) steps k = after (state_after s n steps) (event_at steps n) (kept_after after s n steps k)
+abbrev pub log_after_all : State → ℕ → List Step → Log → Log
+log_after_all s zero steps l = l
+log_after_all s (suc n) steps l = log_after (state_after s n steps) (event_at steps n) (log_after_all s n steps l)
+
+abbrev pub rates_after_all : State → ℕ → List Step → Roll ℕ → Roll ℕ
+rates_after_all s zero steps l = l
+rates_after_all s (suc n) steps l = rates_after (state_after s n steps) (event_at steps n) (rates_after_all s n steps l)
 
 -- n steps were brought by the rules: each shows what the rules answer, and keeps its event; head, board, log and rates end as the rules say
 pub record Ran (n : ℕ) (before after : List Step) (s t : State) (log log' : Log) (rates rates' : Roll ℕ) : Type 0 where
@@ -85,5 +89,5 @@ pub record Ran (n : ℕ) (before after : List Step) (s t : State) (log log' : Lo
   pub events : (i : ℕ) → (step_at after i).event ≡ (step_at before i).event
   pub shows : (i : ℕ) → i < n → (step_at after i).shown ≡ shown_of (state_after s i before) (event_at before i)
   pub ends : t ≡ state_after s n before
-  pub logged : log' ≡ kept_after log_after s n before log
-  pub rated : rates' ≡ kept_after rates_after s n before rates
+  pub logged : log' ≡ log_after_all s n before log
+  pub rated : rates' ≡ rates_after_all s n before rates

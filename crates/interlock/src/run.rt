@@ -4,8 +4,8 @@ ghost use Rattle.head.specs.Events.{powered_on};
 ghost use Rattle.head.specs.State.{state_of};
 ghost use Rattle.head.specs.Rolls.{roll_of, emptied};
 ghost use Rattle.head.specs.Logs.{restored_log};
-ghost use Rattle.interlock.specs.Logged.{LogHeld};
-ghost use Rattle.interlock.specs.Promises.{Promise, LogPromise, RatesPromise, RatesHeld, Stands, begins, continued};
+ghost use Rattle.interlock.specs.Logged.{LogHeld, LogPromise};
+ghost use Rattle.interlock.specs.Promises.{Promise, RatesPromise, RatesHeld, Stands, begins, continued};
 ghost use Rattle.interlock.specs.Runs.{Ran};
 
 use super::step::{Step, bring_one};
