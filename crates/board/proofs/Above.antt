@@ -1,5 +1,5 @@
 -- Everything off, setting by setting.
-use Rattle.std.proofs.Common.{◌≡◌, ℕ, zero, suc, ◌+◌, ◌<◌, ◌≤◌, Bool, true, false, List, [], ◌∷◌, length, get_or, set, sym, refl, ap, ◌∙◌, add-one, arith}
+use Rattle.std.proofs.Common.{◌≡◌, ℕ, zero, suc, ◌+◌, Bool, false, List, [], ◌∷◌, length, set, refl, ap, ◌∙◌, add-one, arith}
 use Rattle.board.specs.declared.line_state.LineState.{LineState}
 use Rattle.board.specs.declared.line_state.LineState.TheVariants.{Off}
 use Rattle.board.specs.Meaning.{Outputs, Whole, dark, with_supply, with_heater, with_line}

@@ -1,5 +1,5 @@
 -- What the latched word of a chain board means.
-use Rattle.std.specs.Prelude.{ℕ, ◌/◌, ◌%◌, ◌^◌, List, [], ◌∷◌, map}
+use Rattle.std.specs.Prelude.{ℕ, ◌/◌, ◌^◌, [], ◌∷◌, map}
 use Rattle.board.specs.Meaning.{Outputs}
 use Rattle.board.specs.Lines.{line_of}
 use Rattle.board.specs.Bits.{bits, field_at}

@@ -1,5 +1,5 @@
 -- What the crossing adapter exchanges.
-use Rattle.std.specs.Prelude.{ℕ, zero, suc, false, List, [], ◌∷◌, slice_index, slice_index_or}
+use Rattle.std.specs.Prelude.{ℕ, zero, suc, false, [], ◌∷◌, slice_index, slice_index_or}
 use Rattle.board.specs.Meaning.{Outputs}
 use Rattle.board.specs.declared.line_state.LineState.TheVariants.{Off}
 

@@ -1,5 +1,5 @@
 -- What a board means: ten outputs. Supplies are set points, 0 is off; heaters are on (true) or off; lines have a state.
-use Rattle.std.specs.Prelude.{◌≡◌, ℕ, Bool, false, List, [], ◌∷◌, length, set, slice_set}
+use Rattle.std.specs.Prelude.{◌≡◌, ℕ, Bool, false, List, [], ◌∷◌, length, slice_set}
 use Rattle.board.specs.declared.line_state.LineState.{LineState}
 use Rattle.board.specs.declared.line_state.LineState.TheVariants.{Off}
 

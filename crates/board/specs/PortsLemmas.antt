@@ -1,5 +1,5 @@
 -- The ports mean a whole board.
-use Rattle.std.specs.Prelude.{◌≡◌, refl}
+use Rattle.std.specs.Prelude.{refl}
 use Rattle.board.specs.declared.port.PortBoard.{PortBoard}
 use Rattle.board.specs.Meaning.{Whole}
 use Rattle.board.specs.Ports.{outputs}

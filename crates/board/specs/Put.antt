@@ -1,7 +1,7 @@
 -- The laws of `put` and `bits`.
-use Rattle.std.specs.Prelude.{◌≡◌, ℕ, zero, suc, ◌+◌, ◌-◌, ◌*◌, ◌/◌, ◌%◌, ◌^◌, ◌<◌, ◌≤◌, max, Bool, true, false, List, [], ◌∷◌, length, ◌==◌, bit_and, bit_or, nat_eq, slice_index_or, slice_set, refl}
-use Rattle.std.proofs.Common.{sym, ap, ◌∙◌, subst, mul_assoc, add-mul, add_assoc, add_comm, mod-lt, zero-mul, add-one, arith, pow-add, pow_pos, pow_mono, shr-shr, shl_exact}
-use Rattle.std.proofs.Math.Nat.{mod-one, zero-mod}
+use Rattle.std.specs.Prelude.{◌≡◌, ℕ, zero, suc, ◌+◌, ◌-◌, ◌*◌, ◌/◌, ◌%◌, ◌^◌, ◌<◌, ◌≤◌, max, Bool, true, false, ◌∷◌, length, ◌==◌, bit_and, bit_or, nat_eq, slice_index_or, slice_set, refl}
+use Rattle.std.proofs.Common.{sym, ap, ◌∙◌, subst, mul_assoc, add-mul, add_comm, mod-lt, zero-mul, add-one, arith, pow-add, pow_pos, pow_mono, shr-shr, shl_exact}
+use Rattle.std.proofs.Math.Nat.{zero-mod}
 use Rattle.std.proofs.lemmas.Nat.{and_block, or_block, or_shifted, and_mask, mod-pow-add}
 use Rattle.std.specs.Int.Bits.{or_zero_r, or_step}
 use Rattle.std.proofs.Math.Pow.{split, high, low, mod-mod-pow, shr_mod, ones_split, ones_lt}
@@ -24,11 +24,11 @@ bits_mod (suc n) w v e =
     let b : w % 2 ≡ v % 2 = omega arith in
     ap (λ x. (x == 1) ∷ bits n (w / 2)) b ∙ ap (λ l. (v % 2 == 1) ∷ l) (bits_mod n (w / 2) (v / 2) a)
 
-pub get_d_bits : (n w i : ℕ) → i < n → slice_index_or (bits n w) i false ≡ (w / 2 ^ i % 2 == 1)
+pub get_or_bits : (n w i : ℕ) → i < n → slice_index_or (bits n w) i false ≡ (w / 2 ^ i % 2 == 1)
 unfolding bits
-get_d_bits zero w i h = absurd (omega arith)
-get_d_bits (suc n) w zero h = ap (λ x. nat_eq (x % 2) 1) (omega arith)
-get_d_bits (suc n) w (suc i) h = get_d_bits n (w / 2) i (omega arith) ∙ ap (λ x. nat_eq (x % 2) 1) (shr-shr w 1 i ∙ ap (λ k. w / 2 ^ k) (omega arith))
+get_or_bits zero w i h = absurd (omega arith)
+get_or_bits (suc n) w zero h = ap (λ x. nat_eq (x % 2) 1) (omega arith)
+get_or_bits (suc n) w (suc i) h = get_or_bits n (w / 2) i (omega arith) ∙ ap (λ x. nat_eq (x % 2) 1) (shr-shr w 1 i ∙ ap (λ k. w / 2 ^ k) (omega arith))
 
 module _ (w j k v : ℕ) where
   pub put_low : put w j k v % 2 ^ k ≡ w % 2 ^ k

@@ -1,5 +1,5 @@
 -- The word of a chain: how it is shifted in, and what a field put into it means.
-use Rattle.std.specs.Prelude.{◌≡◌, ℕ, zero, suc, ◌+◌, ◌-◌, ◌*◌, ◌/◌, ◌%◌, ◌^◌, ◌<◌, ◌≤◌, Bool, true, false, List, [], ◌∷◌, map, length, ◌==◌, bit_and, bit_or, nat_eq, slice_index_or, refl}
+use Rattle.std.specs.Prelude.{◌≡◌, ℕ, zero, suc, ◌+◌, ◌-◌, ◌*◌, ◌/◌, ◌%◌, ◌^◌, ◌<◌, ◌≤◌, Bool, false, List, [], ◌∷◌, map, ◌==◌, bit_and, bit_or, nat_eq, slice_index_or, refl}
 use Rattle.std.proofs.Common.{sym, ap, subst, ◌∙◌, add_comm, arith, shr-shr}
 use Rattle.std.proofs.Math.Pow.{mod-mod-pow}
 use mir.Val.{bool_byte}
@@ -10,7 +10,7 @@ use Rattle.board.specs.Chain.{word_outputs}
 use Rattle.board.specs.Lines.{is_on, line_of}
 use Rattle.board.specs.declared.line_state.LineState.{LineState}
 use Rattle.board.specs.LinesLemmas.{lines_length, lines_put}
-use Rattle.board.specs.Put.{length_bits, bits_mod, bits_put, get_d_bits, put_get, put_below, put_above, put_shr, put_word, byte_small}
+use Rattle.board.specs.Put.{length_bits, bits_mod, bits_put, get_or_bits, put_get, put_below, put_above, put_shr, put_word, byte_small}
 
 pub word_whole : (w : ℕ) → Whole (word_outputs w)
 word_whole w = record { supplies = refl; heaters = length_bits 2 (w / 2 ^ 6); lines = lines_length 6 w }
@@ -108,4 +108,4 @@ pub field_code : (x j : ℕ) → j ≤ 8 → bit_and x ((1 * 2 ^ j) % 2 ^ 32 - 1
 field_code x j h = rw (one_shl j 32 (omega arith)) (and_mask x j)
 
 pub heater_bit : (w i : ℕ) → i < 2 → (w / 2 ^ (6 + i) % 2 == 1) ≡ slice_index_or (bits 2 (w / 2 ^ 6)) i false
-heater_bit w i h = sym (get_d_bits 2 (w / 2 ^ 6) i h ∙ ap (λ x. nat_eq (x % 2) 1) (shr-shr w 6 i))
+heater_bit w i h = sym (get_or_bits 2 (w / 2 ^ 6) i h ∙ ap (λ x. nat_eq (x % 2) 1) (shr-shr w 6 i))

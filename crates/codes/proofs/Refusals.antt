@@ -1,5 +1,5 @@
 -- What passed a chain of tests passed each of them.
-use Rattle.std.proofs.Common.{◌≡◌, ℕ, Bool, true, false, Ok, Err, Result, refl, arith}
+use Rattle.std.proofs.Common.{◌≡◌, ℕ, Bool, true, false, Ok, Result, refl, arith}
 use Rattle.codes.specs.Reports.{refuse}
 
 pub passed : {V F : Type 0} (test : Bool) (fault : F) (rest : Result V F) (v : V) → refuse test fault rest ≡ Ok v → (test ≡ false) × (rest ≡ Ok v)

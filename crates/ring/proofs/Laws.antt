@@ -1,7 +1,7 @@
 -- The slots of a ring as a list, newest first: what one record more does to it, and where the record of an age stands.
-use Rattle.std.proofs.Common.{◌≡◌, ℕ, suc, ◌+◌, ◌-◌, ◌<◌, ◌≤◌, ◌⊎◌, List, [], ◌∷◌, ◌++◌, reverse, length, get_or, take, drop, set, Some, None, Option, sym, refl, ap, ◌∙◌, inl, inr, append_assoc, add-one, arith}
+use Rattle.std.proofs.Common.{◌≡◌, ℕ, suc, ◌+◌, ◌-◌, ◌<◌, ◌≤◌, ◌⊎◌, List, [], ◌∷◌, ◌++◌, reverse, length, get_or, take, drop, set, Some, sym, ap, ◌∙◌, inl, inr, append_assoc, add-one, arith}
 use Rattle.std.specs.List.{slice_get}
-use Rattle.std.proofs.lemmas.List.{length-append, length-reverse, length-take-le, length-drop, length-set, take-append-drop, reverse-append, drop_more, take_more_set, drop-set-lt, set_split, drop_all, take-append-le, take_all, take-take, get_or-take, get_or-drop, get_or-reverse, get_or_append_left, get_or-append_right, append-nil}
+use Rattle.std.proofs.lemmas.List.{length-append, length-reverse, length-take-le, length-drop, take-append-drop, reverse-append, drop_more, take_more_set, drop-set-lt, set_split, drop_all, take-append-le, take_all, take-take, get_or-take, get_or-drop, get_or-reverse, get_or_append_left, get_or-append_right, append-nil}
 use Rattle.std.proofs.lemmas.Option.{slice_get-get_or}
 use Rattle.ring.specs.Held.{back_from}
 

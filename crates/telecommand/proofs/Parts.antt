@@ -1,7 +1,7 @@
 -- A buffer after its part from some octet on was written.
-use Rattle.std.proofs.Common.{◌≡◌, ℕ, ◌+◌, ◌-◌, ◌*◌, ◌<◌, ◌≤◌, List, [], ◌∷◌, ◌++◌, length, take, drop, sym, refl, ap, ◌∙◌, append_assoc, arith}
+use Rattle.std.proofs.Common.{◌≡◌, ℕ, ◌+◌, ◌-◌, List, [], ◌++◌, length, take, drop, sym, ap, ◌∙◌, append_assoc, arith}
 use borrow.Rule.Slice.PartMut.{put_mid}
-use Rattle.std.proofs.lemmas.List.{length-append, length-drop, length-take-le, take_all, drop_all, append-nil, drop-drop, take_rest, take_at, drop_at}
+use Rattle.std.proofs.lemmas.List.{length-drop, drop_all, append-nil, drop-drop, take_rest, take_at, drop_at}
 
 -- the whole after a write to its part from `a` on
 pub put_rest : {X : Type 0} (a : ℕ) (xs ys : List X) → put_mid a (length xs - a) xs ys ≡ take a xs ++ ys

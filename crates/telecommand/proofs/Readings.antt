@@ -1,5 +1,5 @@
 -- Laws of the reader: a command without words, a data field by its op-code, and the least length of a field.
-use Rattle.std.proofs.Common.{◌≡◌, ℕ, ◌+◌, ◌-◌, ◌*◌, ◌/◌, ◌≤◌, Bool, not, eqb, leb, List, [], length, get_or, take, drop, Some, None, Ok, Err, Option, Result, sym, ap, ◌∙◌, subst, arith, eq-eqb, eqb-true, leb-true}
+use Rattle.std.proofs.Common.{◌≡◌, ℕ, ◌+◌, ◌-◌, ◌*◌, ◌/◌, ◌≤◌, Bool, not, eqb, leb, List, [], length, get_or, take, drop, Some, None, Ok, Err, Option, Result, sym, ap, subst, arith, eq-eqb, eqb-true, leb-true}
 use Rattle.std.proofs.lemmas.List.{nil_from_length, take_rest, length-drop}
 use Rattle.std.proofs.lemmas.Bool.{and_parts, not-false}
 use Rattle.codes.specs.Reports.{refuse}

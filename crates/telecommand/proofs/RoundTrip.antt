@@ -1,6 +1,6 @@
 -- A frame that was written is read as its command, on the primary link, whatever stands on the redundant.
-use Rattle.std.proofs.Common.{◌≡◌, ℕ, ◌+◌, ◌-◌, ◌*◌, ◌/◌, ◌%◌, ◌<◌, ◌≤◌, true, eqb, leb, List, [], ◌∷◌, ◌++◌, length, get_or, take, drop, Some, None, Ok, Err, Option, Result, sym, refl, ap, ◌∙◌, append_assoc, arith, eq-eqb, le-leb}
-use Rattle.std.proofs.lemmas.List.{length-append, length-take-le, take_at, drop_at}
+use Rattle.std.proofs.Common.{◌≡◌, ℕ, ◌+◌, ◌*◌, ◌/◌, ◌≤◌, true, List, ◌∷◌, ◌++◌, length, take, drop, Some, None, Ok, Option, Result, ap, ◌∙◌, append_assoc, arith, eq-eqb, le-leb}
+use Rattle.std.proofs.lemmas.List.{length-take-le, take_at, drop_at}
 use Rattle.telecommand.specs.Packet.{word, sized}
 use Rattle.telecommand.specs.Commands.{Telecommand, Legal, WordsFit, of_kind, kind_in, commands, command_of}
 use Rattle.telecommand.specs.Links.{link_field, prefer, blank, command_in, reads}

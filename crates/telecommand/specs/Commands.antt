@@ -1,5 +1,5 @@
 -- The eleven commands, and which of them a data field brings.
-use Rattle.std.specs.Prelude.{◌≡◌, ℕ, ◌+◌, ◌*◌, Bool, true, false, cond, not, List, [], ◌∷◌, length, drop, Some, None, Ok, Err, Option, Result, ◌==◌}
+use Rattle.std.specs.Prelude.{◌≡◌, ℕ, ◌*◌, Bool, true, false, cond, not, List, [], ◌∷◌, length, drop, Some, None, Ok, Err, Option, Result, ◌==◌}
 use Rattle.codes.specs.Reports.{refuse}
 use Rattle.telecommand.specs.Packet.{word}
 use Rattle.telecommand.specs.declared.kinds.Kind.{Kind}

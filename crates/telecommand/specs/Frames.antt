@@ -2,7 +2,7 @@
 use Rattle.std.specs.Prelude.{◌≡◌, ℕ, ◌+◌, ◌*◌, ◌/◌, ◌%◌, ◌||◌, List, [], ◌∷◌, ◌++◌, length, take, drop, Ok, Err, Result, nat_lt}
 use Rattle.codes.specs.Reports.{refuse}
 use Rattle.telecommand.specs.Packet.{header}
-use Rattle.telecommand.specs.Commands.{Telecommand, Legal}
+use Rattle.telecommand.specs.Commands.{Legal}
 use Rattle.telecommand.specs.Links.{reads}
 use Rattle.telecommand.specs.declared.fault.WriteFault.{WriteFault}
 use Rattle.telecommand.specs.declared.fault.WriteFault.TheVariants.{PastEnd, NoFrame}

@@ -1,5 +1,4 @@
-use Rattle.std.proofs.Common.{ap, ◌∙◌, arith}
-use Rattle.board.specs.Bits.{put}
+use Rattle.std.proofs.Common.{◌∙◌, arith}
 use Rattle.board.specs.Put.{set_code, clear_code}
 use Rattle.board.proofs.port.with_bit.Goals as goal
 

@@ -1,4 +1,4 @@
-use Rattle.std.proofs.Common.{ap, ◌∙◌, rules}
+use Rattle.std.proofs.Common.{ap, rules}
 use Rattle.board.specs.Chain.{word_outputs}
 use Rattle.board.specs.declared.shift_register.ShiftRegister.{ShiftRegister}
 use Rattle.board.proofs.Past.{line_past}
