@@ -1,5 +1,5 @@
 -- A loop that passes over a list place by place: below i the new values stand, from i on the old ones.
-use Rattle.std.proofs.Common.{◌≡◌, ℕ, ◌+◌, ◌<◌, ◌≤◌, ◌≢◌, ◌⊎◌, List, length, get_or, set, sym, ◌∙◌, subst, inl, inr, arith, length-set, get_or-set_other, get_or-set_same, below_more}
+use Rattle.std.proofs.Common.{◌≡◌, ℕ, ◌+◌, ◌<◌, ◌≤◌, ◌≢◌, List, length, get_or, set, ◌∙◌, arith, length-set, get_or-set_other, get_or-set_same, below_more}
 
 module _ {X : Type 0} where
   pub record Halfway (d : X) (new old : ℕ → X) (n : ℕ) (xs : List X) (i : ℕ) : Type 0 where

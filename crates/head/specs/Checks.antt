@@ -1,5 +1,5 @@
 -- The checks: when a value is out, how failures are counted, which check trips. ps are the 25 parameters.
-use Rattle.std.specs.Prelude.{ℕ, zero, suc, ◌+◌, ◌-◌, ◌*◌, ◌/◌, ◌%◌, ◌^◌, min, max, Bool, true, false, cond, not, ◌&&◌, ◌||◌, List, [], ◌∷◌, Some, None, Option, ◌==◌, nat_le, nat_lt, slice_index, slice_index_or}
+use Rattle.std.specs.Prelude.{ℕ, zero, suc, ◌+◌, ◌-◌, ◌*◌, ◌/◌, ◌%◌, ◌^◌, min, max, Bool, false, cond, not, ◌&&◌, ◌||◌, List, Some, None, Option, ◌==◌, nat_le, nat_lt, slice_index, slice_index_or}
 use Rattle.head.specs.declared.checks.Check.{Check}
 use Rattle.head.specs.declared.checks.Check.TheVariants.{Plate, Strip, Anode, Rate, Temperature}
 use Rattle.head.specs.declared.checks.Sample.{Sample}

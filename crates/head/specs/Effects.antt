@@ -2,7 +2,7 @@
 use Rattle.std.specs.Prelude.{ℕ, ◌*◌, Bool, true, false, cond, Some, None, Option, ◌==◌, nat_lt, slice_index, slice_set}
 use Rattle.board.specs.Meaning.{Outputs, with_supply, with_heater, with_line}
 use Rattle.board.specs.declared.line_state.LineState.TheVariants.{Off, On}
-use Rattle.head.specs.State.{State, st, mode_is, waiting_is, driven, parameters_are, outputs_are}
+use Rattle.head.specs.State.{State, mode_is, waiting_is, driven, parameters_are, outputs_are}
 use Rattle.head.specs.declared.Mode.{Mode}
 use Rattle.head.specs.declared.Mode.TheVariants.{Safe, Checkout}
 use Rattle.head.specs.declared.Order.{Order}

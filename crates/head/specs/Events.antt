@@ -1,5 +1,5 @@
 -- The rules of the events: what state each leaves, and what it is answered.
-use Rattle.std.specs.Prelude.{ℕ, zero, suc, ◌+◌, ◌-◌, ◌*◌, ◌%◌, ◌^◌, max, Bool, true, false, cond, not, ◌&&◌, ◌||◌, List, [], ◌∷◌, Some, None, Ok, Err, Option, Result, ◌==◌, nat_lt, slice_index}
+use Rattle.std.specs.Prelude.{ℕ, ◌+◌, ◌-◌, ◌%◌, ◌^◌, max, Bool, false, cond, ◌&&◌, List, [], ◌∷◌, Some, None, Ok, Err, Option, Result, ◌==◌, nat_lt, slice_index}
 use Rattle.board.specs.Meaning.{Outputs, with_line, dark}
 use Rattle.board.specs.declared.line_state.LineState.TheVariants.{Off}
 use Rattle.codes.specs.Reports.{refuse}

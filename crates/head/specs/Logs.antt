@@ -1,10 +1,10 @@
 -- What each event adds to the log, oldest first. An entry bears the head's time at logging.
-use Rattle.std.specs.Prelude.{ℕ, zero, suc, Bool, true, false, cond, ◌&&◌, List, [], ◌∷◌, Some, None, Ok, Err, Option, Result, nat_lt, slice_index}
+use Rattle.std.specs.Prelude.{ℕ, zero, suc, Bool, true, false, cond, ◌&&◌, List, Some, None, Ok, Err, Option, Result, nat_lt, slice_index}
 use Rattle.telecommand.specs.Commands.{Telecommand}
 use Rattle.telecommand.specs.Links.{reads, set_aside}
 use Rattle.telecommand.specs.Faults.{read_report}
 use Rattle.telecommand.specs.declared.fault.ReadFault.{ReadFault}
-use Rattle.head.specs.Rolls.{Roll, Log, added, entry, emptied}
+use Rattle.head.specs.Rolls.{Roll, Log, added, entry}
 use Rattle.head.specs.Parameters.{allowed}
 use Rattle.head.specs.Faults.{report_of, note_of}
 use Rattle.head.specs.Requests.{request_of, order_op}

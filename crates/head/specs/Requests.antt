@@ -1,5 +1,5 @@
 -- What a command asks of the head, and what holds of it whatever the head's state.
-use Rattle.std.specs.Prelude.{ℕ, Bool, true, false, cond, List, Some, None, Option, ◌==◌, slice_index}
+use Rattle.std.specs.Prelude.{ℕ, Bool, true, false, cond, Some, None, Option, ◌==◌, slice_index}
 use Rattle.telecommand.specs.Packet.{word}
 use Rattle.telecommand.specs.Commands.{Telecommand, kind_in, commands, kind}
 use Rattle.telecommand.specs.declared.kinds.Kind.{Kind}

@@ -1,5 +1,5 @@
 -- The state of a head: what it keeps, and what its board means. A rule makes a new state of one by changing a part of it.
-use Rattle.std.specs.Prelude.{ℕ, false, List, Some, None, Option}
+use Rattle.std.specs.Prelude.{ℕ, List, Option}
 use Rattle.board.specs.Meaning.{Outputs}
 use Rattle.head.specs.declared.Mode.{Mode}
 use Rattle.head.specs.declared.Waiting.{Waiting}

@@ -1,8 +1,8 @@
 -- What a request is answered: the fault of the first test that holds, or none.
-use Rattle.std.specs.Prelude.{ℕ, ◌+◌, ◌-◌, Bool, true, false, cond, not, ◌&&◌, ◌||◌, List, Some, None, Ok, Err, Option, Result, ◌==◌, nat_le, nat_lt, slice_index}
+use Rattle.std.specs.Prelude.{ℕ, ◌-◌, Bool, true, false, not, ◌&&◌, List, Some, None, Ok, Err, Option, Result, ◌==◌, nat_le, nat_lt, slice_index}
 use Rattle.codes.specs.Reports.{refuse}
 use Rattle.head.specs.Parameters.{allowed as in_range}
-use Rattle.head.specs.Requests.{op_of, order_op, is_critical, barred}
+use Rattle.head.specs.Requests.{op_of, order_op, barred}
 use Rattle.head.specs.declared.Mode.{Mode}
 use Rattle.head.specs.declared.Mode.TheVariants.{Safe, Checkout}
 use Rattle.head.specs.declared.Order.{Order}

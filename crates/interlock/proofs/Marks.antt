@@ -94,7 +94,7 @@ module _ (x : Mark) (y : Shown) (s : State) (h : Past) (k : Now h s) (ls : LastI
       let same : q.marked ≡ x = cc in
       let rt : q.rate_then ≡ now_rate = rate_one s.core.meters.last q.marked.raw q.rate_then h ls q.rate_is ∙ ap (λ (z : Mark). rate_at s.core.meters.last z.raw) same in
       elim q.above as (λ v. get_or trips (check_above v) false ≡ true) [
-        inl a ↦
+        | inl a ↦
             let m3 : masked ps 3 ≡ false = subst (λ (l : List ℕ). masked l 3 ≡ false) force a.0 in
             let over : 256 * get_or ps 10 0 < now_rate = subst (λ (l : List ℕ). 256 * get_or l 10 0 < now_rate) force (subst (λ (z : ℕ). 256 * get_or q.params 10 0 < z) rt a.1) in
             ap (λ (b : Bool). not b && ltb (256 * get_or ps 10 0) now_rate) m3 ∙ lt-ltb _ _ over

@@ -1,5 +1,5 @@
 -- The safety timer, as the trips and the second marks of a history make it.
-use Rattle.std.proofs.Common.{ℕ, zero, suc, ◌-◌, ◌<◌, ◌⊎◌, ◌∷◌, length, drop, inl, inr, ⊎_elim, arith}
+use Rattle.std.proofs.Common.{ℕ, zero, suc, ◌-◌, ◌<◌, ◌∷◌, length, drop, inl, inr, ⊎_elim, arith}
 use Rattle.interlock.specs.History.{Did, Past, marking, ParameterIs, Trips, NeverSet, SetBack, TimerIs}
 use Rattle.interlock.proofs.Agos.{ago_now, ago_later}
 

@@ -8,7 +8,7 @@ use Rattle.head.specs.State.{State}
 use Rattle.head.specs.declared.Mode.TheVariants.{Checkout}
 use Rattle.interlock.specs.Events.{Event, reading, not_due}
 use Rattle.interlock.specs.Runs.{next, shown_of, step_at, event_at}
-use Rattle.interlock.specs.History.{Came, powered, brought, Did, Past, marks, ticks_since_mark, raws, rates_of, Ago, Always, Before, supply_reads, heater_reads, line_reads, parameter_reads, last_shown, Accepted, IsFrame, PowersOn, ParameterIs, InCheckout, EntersSafe, TimerIs, SwitchedOn, HeatedOn, Starts, Runs}
+use Rattle.interlock.specs.History.{powered, brought, Did, Past, marks, ticks_since_mark, raws, rates_of, Ago, Always, Before, supply_reads, heater_reads, line_reads, parameter_reads, last_shown, Accepted, IsFrame, PowersOn, ParameterIs, InCheckout, EntersSafe, TimerIs, SwitchedOn, HeatedOn, Runs}
 use Rattle.interlock.specs.declared.step.Step.{Step}
 
 -- the command was accepted fewer than 2,000 ticks ago, with no frame and no entry into SAFE since

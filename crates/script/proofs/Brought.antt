@@ -10,8 +10,8 @@ use Rattle.std.proofs.lemmas.Str.{IsAscii-append}
 use Rattle.std.proofs.lemmas.Bool.Decides.{nat_tests}
 use Rattle.head.specs.declared.checks.Mark.{Mark}
 use Rattle.head.specs.declared.checks.Sample.{Sample}
-use Rattle.script.specs.Events.{letter_of, kind_of, frame_field, fields_of, text_of, sample_bytes, SixBytes, MarkFits, InRange, Of}
-use Rattle.script.specs.Hex.{hex_digit, hex, octets_in, Sound}
+use Rattle.script.specs.Events.{letter_of, kind_of, frame_field, fields_of, text_of, sample_bytes, MarkFits, InRange, Of}
+use Rattle.script.specs.Hex.{hex_digit, hex, octets_in}
 use Rattle.script.specs.Numbers.{spaced, Bytes}
 use Rattle.script.specs.Reading.{Reads}
 use Rattle.script.specs.declared.event.EventLine.{EventLine}

@@ -2,8 +2,7 @@
 use Rattle.std.proofs.Common.{◌≡◌, ℕ, zero, suc, ◌+◌, ◌-◌, ◌*◌, ◌/◌, ◌%◌, ◌<◌, ◌≤◌, List, [], ◌∷◌, ◌++◌, length, get_or, take, drop, set, replicate, sym, refl, ap, ◌∙◌, append_assoc, arith}
 use Rattle.std.proofs.ByRecursion.{All-get_or, All-take}
 use Rattle.std.proofs.lemmas.List.{take_more, take_more_set, length-take, drop-set-lt, drop-drop, drop-replicate}
-use Rattle.script.specs.Hex.{hex_digit, octet_text, hex, octets_in, Sound, Filling}
-use Rattle.script.specs.Numbers.{Bytes}
+use Rattle.script.specs.Hex.{hex_digit, octet_text, hex, octets_in, Filling}
 use Rattle.script.specs.declared.hexadecimal.Octets.{Octets}
 
 pub length_hex : (bs : List ℕ) → length (hex bs) ≡ 2 * length bs

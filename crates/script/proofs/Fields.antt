@@ -1,5 +1,5 @@
 -- Fields of a line: numbers with one space between two.
-use Rattle.std.proofs.Common.{◌≡◌, ℕ, zero, suc, ◌-◌, ◌^◌, ◌<◌, ◌≤◌, Bool, true, false, List, [], ◌∷◌, ◌++◌, length, get_or, set, Some, None, decimal, Option, sym, refl, ap, subst, append-nil, arith, lit<, Bor, MatchOption}
+use Rattle.std.proofs.Common.{◌≡◌, ℕ, suc, ◌-◌, ◌^◌, ◌<◌, ◌≤◌, Bool, true, false, List, [], ◌∷◌, ◌++◌, length, get_or, set, Some, None, decimal, Option, sym, refl, ap, subst, append-nil, arith, lit<, Bor, MatchOption}
 use borrow.Rule.Slice.PartMut.{put_mid}
 use Rattle.std.specs.Str.Parse.{AllDigits, digits_value}
 use Rattle.std.proofs.lemmas.Str.Parse.{IsNumeralModel, numerals_by_value, tells_digits, not_in_digits}

@@ -1,5 +1,5 @@
 -- Sums of bits.
-use Rattle.std.proofs.Common.{◌≡◌, ℕ, zero, suc, ◌+◌, ◌*◌, ◌^◌, ◌<◌, ◌≤◌, Bool, true, false, List, [], ◌∷◌, length, refl, arith}
+use Rattle.std.proofs.Common.{ℕ, zero, suc, ◌^◌, ◌<◌, ◌≤◌, Bool, true, false, List, [], ◌∷◌, length, arith}
 use native.Mathlib.Nat.{pow-succ'}
 use mir.Val.{bool_byte}
 use Rattle.script.specs.Outcomes.{sum_of_bits}

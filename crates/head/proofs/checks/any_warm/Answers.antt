@@ -1,4 +1,4 @@
-use Rattle.std.proofs.Common.{◌≡◌, ℕ, Bool, true, false, not, sym, subst, arith}
+use Rattle.std.proofs.Common.{◌≡◌, ℕ, false, sym, subst, arith}
 use Rattle.std.proofs.lemmas.Bool.{and_from, and_left, and_right, lt-ltb, le-ltb, not_from_true, not_from_false}
 use Rattle.head.specs.Checks.{sensor_out, some_below, warm}
 use Rattle.head.proofs.Someone.{some_at, none_more}

@@ -1,4 +1,4 @@
-use Rattle.std.proofs.Common.{◌≡◌, ℕ, ◌+◌, ◌-◌, ◌*◌, ◌/◌, ◌<◌, ◌≤◌, length, take, drop, replicate, sym, ap, ◌∙◌, arith, length-set}
+use Rattle.std.proofs.Common.{◌≡◌, ◌-◌, ◌*◌, ◌/◌, ◌≤◌, length, take, drop, replicate, sym, ap, ◌∙◌, arith, length-set}
 use Rattle.std.proofs.ByRecursion.{All-set}
 use Rattle.std.proofs.lemmas.List.{take_all}
 use Rattle.script.specs.Hex.{hex}

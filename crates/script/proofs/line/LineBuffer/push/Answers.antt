@@ -1,4 +1,4 @@
-use Rattle.std.proofs.Common.{◌≡◌, length, arith}
+use Rattle.std.proofs.Common.{arith}
 use Rattle.script.proofs.Buffers.{pushed, refused}
 use Rattle.script.proofs.line.LineBuffer.push.Goals as goal
 

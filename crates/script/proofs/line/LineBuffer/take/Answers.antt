@@ -1,8 +1,8 @@
-use Rattle.std.proofs.Common.{◌≡◌, ℕ, ◌+◌, ◌<◌, ◌≤◌, List, ◌∷◌, ◌++◌, length, get_or, take, drop, Option, sym, ap, ◌∙◌, arith}
+use Rattle.std.proofs.Common.{◌≡◌, ℕ, ◌+◌, ◌<◌, List, ◌∷◌, ◌++◌, length, get_or, take, drop, Option, sym, ap, ◌∙◌, arith}
 use Rattle.std.proofs.ByRecursion.{All-more}
 use Rattle.std.proofs.lemmas.List.{take-append-drop, take_all, drop_more, length-take}
 use Rattle.std.proofs.lemmas.List.Sums.{fold_more}
-use Rattle.script.specs.Lines.{with_byte, onto, kept, Feedless}
+use Rattle.script.specs.Lines.{with_byte, kept}
 use Rattle.script.proofs.line.LineBuffer.take.Goals as goal
 
 pub loop-i-preserved : goal.loop-i-preserved

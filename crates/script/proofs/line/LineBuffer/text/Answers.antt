@@ -1,4 +1,4 @@
-use Rattle.std.proofs.Common.{◌≡◌, ℕ, List, Some, ap, arith}
+use Rattle.std.proofs.Common.{ℕ, List, Some, ap, arith}
 use Rattle.script.proofs.Buffers.{front}
 use Rattle.script.proofs.line.LineBuffer.text.Goals as goal
 

@@ -1,4 +1,4 @@
-use Rattle.std.proofs.Common.{◌≡◌, ℕ, get_or, decimal, ap, ◌∙◌}
+use Rattle.std.proofs.Common.{get_or, decimal, ap, ◌∙◌}
 use Rattle.std.proofs.Output.{has_written_of_eq}
 use Rattle.script.specs.Events.{letter_of}
 use Rattle.script.specs.Outcomes.{answer_text, mode_letter, outcome_text, sum_of_bits}
