@@ -1,4 +1,4 @@
-//! How a head is brought what a line says, and what is printed of it.
+//! The head that is driven, how it is brought what a line says, and what is printed of it.
 ghost use Rattle.std.specs.Prelude.{◌≡◌, ◌<◌};
 ghost use Rattle.head.specs.Rolls.{roll_of};
 ghost use Rattle.head.specs.State.{state_of};
@@ -6,12 +6,20 @@ ghost use Rattle.interlock.specs.Events.{event_of};
 ghost use Rattle.headrun.specs.Lines.{Brought, event_in, times_in, printed, printed_first};
 ghost use Rattle.script.specs.Events.{InRange};
 
-use board::Board;
+use board::{Board, Crossed, PortBoard};
 use codes::Entry;
-use head::Head;
+use head::{Head, defaults};
 use interlock::{Event, Shown, Step, bring, readings};
 use ring::Ring;
 use script::{EventLine, Kind, Outcome};
+
+/// The board that is driven: the crossing adapter on a port board.
+pub(super) type Driven = Crossed<PortBoard>;
+
+// A head that is powered on from the default parameters.
+pub(super) fn power_on(log: &mut Ring<Entry>, rates: &mut Ring<u16>) -> Head<Driven> {
+    Head::power_on(Crossed::new(PortBoard::new([0; 4])), defaults(), log, rates)
+}
 
 // What is printed of an event.
 pub(super) fn outcome(kind: Kind, shown: Shown) -> Outcome

@@ -8,10 +8,8 @@ mod input;
 ghost use Rattle.std.specs.Prelude.{IfSome};
 ghost use Rattle.script.specs.Events.{InRange};
 
-use board::{Crossed, PortBoard};
 use codes::{Entry, Report};
-use drive::{bring_line, outcome, power_on_outcome};
-use head::{Head, defaults};
+use drive::{bring_line, outcome, power_on, power_on_outcome};
 use input::next_line;
 use ring::Ring;
 use script::{BadLine, EventLine, count, event_line};
@@ -28,11 +26,6 @@ const NO_ENTRY: Entry = Entry {
         opcode: 0,
     },
 };
-
-// The board that is driven: the crossing adapter on a port board.
-fn board() -> Crossed<PortBoard> {
-    Crossed::new(PortBoard::new([0; 4]))
-}
 
 // The count of events, from the first line.
 fn read_count<R: BufRead>(input: &mut R) -> Option<u16> {
@@ -61,7 +54,7 @@ fn run<R: BufRead, W: Write>(input: &mut R, output: &mut W) -> io::Result<()> {
     let mut slots = [0; 16];
     let mut log = Ring::new(&mut entries);
     let mut rates = Ring::new(&mut slots);
-    let mut head = Head::power_on(board(), defaults(), &mut log, &mut rates);
+    let mut head = power_on(&mut log, &mut rates);
     writeln!(output, "{}", power_on_outcome(&head))?;
     for n in 0..u32::from(events) {
         let Some(line) = read_event(input) else {
