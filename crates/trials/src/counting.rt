@@ -1,5 +1,6 @@
 //! A board that counts how often each output is set. It is also how a board is added: a struct, `ghost means` saying
-//! which ten outputs its fields stand for, and the six methods, which the check holds to that meaning.
+//! which ten outputs its fields stand for, `ghost whole` that they are all there, and the six methods, which the check
+//! holds to that meaning.
 ghost use Rattle.std.specs.Prelude.{◌≡◌};
 ghost use Rattle.std.proofs.Common.{rules};
 
