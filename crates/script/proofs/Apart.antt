@@ -1,6 +1,6 @@
 -- Values with one text are one value.
 use Rattle.std.proofs.Common.{◌≡◌, ℕ, suc, ◌-◌, ◌/◌, ◌%◌, ◌^◌, ◌<◌, ◌≤◌, List, [], ◌∷◌, ◌++◌, length, get_or, take, drop, replicate, Some, None, decimal, Option, sym, refl, ap, ◌∙◌, arith, length-append, Bor}
-use Rattle.std.specs.List.{AllByRecursion as All}
+use Rattle.std.specs.List.{AllByRecursion}
 use Rattle.std.proofs.lemmas.Fmt.{decimal_injective}
 use Rattle.std.proofs.ByRecursion.{All-take}
 use Rattle.std.proofs.lemmas.List.{take_at, drop_at, take-append-drop, length-take}
@@ -30,7 +30,7 @@ cut (x ∷ xs) (y ∷ ys) r s p q e =
     (ap (λ n. n ∷ xs) (ap (λ (l : List ℕ). get_or l 0 0) e) ∙ ap (λ (l : List ℕ). y ∷ l) rest.0, rest.1)
 
 abbrev Small : List ℕ → Type 0
-Small ns = All (λ n. n < 2 ^ 64) ns
+Small ns = AllByRecursion (λ n. n < 2 ^ 64) ns
 
 spaced_apart : (ms ns : List ℕ) → Small ms → Small ns → length ms ≡ length ns → spaced ms ≡ spaced ns → ms ≡ ns
 spaced_apart [] [] p q l e = refl

@@ -1,6 +1,6 @@
 -- What an event line brings, from its fields.
 use Rattle.std.proofs.Common.{◌≡◌, ℕ, zero, suc, ◌/◌, ◌%◌, ◌^◌, ◌<◌, ◌≤◌, List, [], ◌∷◌, ◌++◌, length, get_or, Some, None, IsAscii, decimal, Option, sym, refl, ap, ◌∙◌, arith, lit<, length-append, Bor, MatchOption}
-use Rattle.std.specs.List.{AllByRecursion as All}
+use Rattle.std.specs.List.{AllByRecursion}
 use Rattle.std.proofs.lemmas.Str.Ascii.{IsAscii-nil, IsAscii-cons}
 use Rattle.std.proofs.lemmas.Fmt.{decimal_injective, IsAscii-decimal}
 use Rattle.std.proofs.ByRecursion.{All-take, All-weaker}
@@ -94,13 +94,13 @@ frame_ascii : (bs : List ℕ) → Bytes bs → IsAscii (frame_field bs)
 frame_ascii [] h = IsAscii-cons 45 [] (lit< tt) IsAscii-nil
 frame_ascii (b ∷ bs) h = hex_ascii (b ∷ bs) h
 
-spaced_ascii : (ns : List ℕ) → All (λ n. n < 2 ^ 64) ns → IsAscii (spaced ns)
+spaced_ascii : (ns : List ℕ) → AllByRecursion (λ n. n < 2 ^ 64) ns → IsAscii (spaced ns)
 spaced_ascii [] h = IsAscii-nil
 spaced_ascii (n ∷ []) h = IsAscii-decimal n h.0
 spaced_ascii (n ∷ m ∷ ns) h =
     IsAscii-append (decimal n) (32 ∷ spaced (m ∷ ns)) (IsAscii-decimal n h.0) (IsAscii-cons 32 (spaced (m ∷ ns)) (lit< tt) (spaced_ascii (m ∷ ns) h.1))
 
-pub wider : (ns : List ℕ) → Bytes ns → All (λ n. n < 2 ^ 64) ns
+pub wider : (ns : List ℕ) → Bytes ns → AllByRecursion (λ n. n < 2 ^ 64) ns
 wider ns h = All-weaker (λ n. n ≤ 255) (λ n. n < 2 ^ 64) (λ n g. omega arith) ns h
 
 fields_ascii : (x : EventLine) → InRange x → IsAscii (fields_of x)

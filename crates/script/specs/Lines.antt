@@ -1,6 +1,6 @@
 -- A line as far as it has been read.
 use Rattle.std.specs.Prelude.{◌≡◌, ℕ, suc, cond, List, [], ◌∷◌, ◌++◌, length, take, Some, None, fold, Option, MatchOption, ◌≢◌, nat_lt}
-use Rattle.std.specs.List.{AllByRecursion as All}
+use Rattle.std.specs.List.{AllByRecursion}
 use Rattle.script.specs.declared.line.LineBuffer.{LineBuffer}
 
 -- the bytes of a line, or none where they are more than the longest legal line has
@@ -18,7 +18,7 @@ onto line more = fold with_byte line more
 
 -- no line feed
 abbrev pub Feedless : List ℕ → Type 0
-Feedless bs = All (λ b. b ≢ 10) bs
+Feedless bs = AllByRecursion (λ b. b ≢ 10) bs
 
 -- where n bytes of a chunk end a line, the last of them is its line feed, and the others are of the line
 pub record Ends (chunk : List ℕ) (before after : Option (List ℕ)) (n : ℕ) : Type 0 where

@@ -1,6 +1,6 @@
 -- Decimal numbers, with one space between two.
 use Rattle.std.specs.Prelude.{◌≡◌, ℕ, ◌≤◌, Bool, not, ◌&&◌, ◌||◌, List, [], ◌∷◌, ◌++◌, length, decimal, MatchBool, ◌==◌, ◌≢◌, slice_index}
-use Rattle.std.specs.List.{AllByRecursion as All}
+use Rattle.std.specs.List.{AllByRecursion}
 
 -- not empty, no sign, no leading zero
 abbrev pub plain : List ℕ → Bool
@@ -14,7 +14,7 @@ spaced (n ∷ m ∷ ns) = decimal n ++ (32 ∷ spaced (m ∷ ns))
 
 -- each is a byte: 0 to 255
 abbrev pub Bytes : List ℕ → Type 0
-Bytes ns = All (λ n. n ≤ 255) ns
+Bytes ns = AllByRecursion (λ n. n ≤ 255) ns
 
 -- whether a text is that of as many bytes as there are places; if so these are in the places
 abbrev pub Filled : List ℕ → List ℕ → Bool → Type 0
