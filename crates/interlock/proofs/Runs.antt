@@ -77,10 +77,12 @@ module _ (n : ℕ) (before after : List Step) (s t : State) (l m : Log) (r q : R
       (subst (λ (d : Did). Held (d ∷ continued h i after) (step u (event_at before i) (kept i))) (same_did i (omega arith))
       (more (event_at before i) (continued h i after) u (kept i) (goes_on i (omega arith)) (kept_on Held step more kept goes i (omega arith) held)))
 
+  rates_on : (i : ℕ) → i ≤ n → RatesHeld h r → RatesHeld (continued h i after) (rates_after_all s i before r)
+  rates_on = kept_on RatesHeld rates_after (λ e h s l f held. (rates_step e h s l (every f) (last_raw f) held).rates_more) (λ i. rates_after_all s i before r) (λ i. refl)
+
   pub run_rates : n ≡ length after → RatesHeld h r → RatesHeld (continued h (length after) after) q
   run_rates e k =
-      subst (λ (m : ℕ). RatesHeld (continued h m after) q) e (subst (RatesHeld (continued h n after)) (sym ran.rated)
-      (kept_on RatesHeld rates_after (λ e h s l f held. (rates_step e h s l (every f) (last_raw f) held).rates_more) (λ i. rates_after_all s i before r) (λ i. refl) n (omega arith) k))
+      subst (λ (m : ℕ). RatesHeld (continued h m after) q) e (subst (RatesHeld (continued h n after)) (sym ran.rated) (rates_on n (omega arith) k))
 
   pub run_log : n ≡ length after → LogHeld h l → LogHeld (continued h (length after) after) m
   run_log e k =

@@ -1,5 +1,5 @@
 -- A sample and a second mark are deeds: counts, trips, rates.
-use Rattle.std.proofs.Common.{◌≡◌, ℕ, zero, suc, ◌+◌, ◌<◌, max, Bool, true, false, cond, not, ◌&&◌, leb, ◌↔◌, List, [], ◌∷◌, ◌++◌, get_or, replicate, Some, None, Option, sym, refl, ap, ◌∙◌, subst, inl, inr, ⊎_elim, arith, eqb-true, le-leb, leb-true}
+use Rattle.std.proofs.Common.{◌≡◌, ℕ, zero, suc, ◌+◌, ◌<◌, max, Bool, true, false, cond, not, ◌&&◌, ◌||◌, leb, ◌↔◌, List, [], ◌∷◌, ◌++◌, get_or, replicate, Some, None, Option, sym, refl, ap, ◌∙◌, subst, inl, inr, ⊎_elim, arith, eqb-true, le-leb, leb-true}
 use borrow.Author.Tests.{eqb-false, not-true, both_ways}
 use Rattle.std.proofs.lemmas.List.{ext_get_or}
 use Rattle.std.proofs.lemmas.Bool.{and_parts}
@@ -61,6 +61,33 @@ lowest_none false false false false false q i = go i
     go (suc (suc (suc zero))) = refl
     go (suc (suc (suc (suc zero)))) = refl
     go (suc (suc (suc (suc (suc i))))) = refl
+
+-- the same of the three checks of a sample alone, and of the two of a second mark
+
+first_of : (a b c : Bool) (k : Check) → lowest (a ∷ b ∷ c ∷ false ∷ false ∷ []) ≡ Some k → (n : ℕ) × (n < 3) × (get_or (a ∷ b ∷ c ∷ []) n false ≡ true)
+first_of true b c k e = (0, omega arith, refl)
+first_of false true c k e = (1, omega arith, refl)
+first_of false false true k e = (2, omega arith, refl)
+first_of false false false k e = let z : ◌≡◌ {A = ℕ} 0 1 = cc in absurd (omega arith)
+
+none_of : (a b c : Bool) (n : ℕ) → n < 3 → lowest (a ∷ b ∷ c ∷ false ∷ false ∷ []) ≡ None → get_or (a ∷ b ∷ c ∷ []) n false ≡ false
+none_of true b c n lt e = let z : ◌≡◌ {A = ℕ} 0 1 = cc in absurd (omega arith)
+none_of false true c n lt e = let z : ◌≡◌ {A = ℕ} 0 1 = cc in absurd (omega arith)
+none_of false false true n lt e = let z : ◌≡◌ {A = ℕ} 0 1 = cc in absurd (omega arith)
+none_of false false false zero lt e = refl
+none_of false false false (suc zero) lt e = refl
+none_of false false false (suc (suc zero)) lt e = refl
+none_of false false false (suc (suc (suc n))) lt e = absurd (omega arith)
+
+pub first_mark : (a b : Bool) (k : Check) → lowest (false ∷ false ∷ false ∷ a ∷ b ∷ []) ≡ Some k → (a || b) ≡ true
+first_mark true b k e = refl
+first_mark false true k e = refl
+first_mark false false k e = let z : ◌≡◌ {A = ℕ} 0 1 = cc in absurd (omega arith)
+
+pub none_mark : (a b : Bool) → lowest (false ∷ false ∷ false ∷ a ∷ b ∷ []) ≡ None → (a || b) ≡ false
+none_mark true b e = let z : ◌≡◌ {A = ℕ} 0 1 = cc in absurd (omega arith)
+none_mark false true e = let z : ◌≡◌ {A = ℕ} 0 1 = cc in absurd (omega arith)
+none_mark false false e = refl
 
 -- a check that trips is a trip
 pub trips_at : (c : ℕ) (d : Did) (h : Past) → TripsAt c (d ∷ h) → Trips (d ∷ h)
