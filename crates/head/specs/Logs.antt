@@ -4,7 +4,8 @@ use Rattle.telecommand.specs.Commands.{Telecommand}
 use Rattle.telecommand.specs.Links.{reads, set_aside}
 use Rattle.telecommand.specs.Faults.{read_report}
 use Rattle.telecommand.specs.declared.fault.ReadFault.{ReadFault}
-use Rattle.head.specs.Rolls.{Roll, Log, added, entry}
+use Rattle.ring.specs.Rolls.{Roll, added}
+use Rattle.head.specs.Rolls.{Log, entry}
 use Rattle.head.specs.Parameters.{allowed}
 use Rattle.head.specs.Faults.{report_of, note_of}
 use Rattle.head.specs.Requests.{request_of, order_op}

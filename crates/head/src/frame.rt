@@ -3,7 +3,6 @@ ghost use Rattle.std.specs.Prelude.{◌≡◌, false};
 ghost use Rattle.head.specs.Effects.{acts, done};
 ghost use Rattle.head.specs.Events.{taken as taken_out, frame_answer, answered, framed};
 ghost use Rattle.head.specs.Logs.{unsaid as is_unsaid, refused, loss_log, own_log, frame_log};
-ghost use Rattle.head.specs.Rolls.{roll_of};
 ghost use Rattle.head.specs.State.{state_of};
 ghost use Rattle.head.specs.Verdicts.{judged};
 
@@ -38,7 +37,7 @@ fn goes_unsaid(answer: Result<(), Fault>, request: Request) -> bool
 impl Core {
     // Notes the loss of what waits, unless that goes unsaid.
     fn note_loss(&self, unsaid: bool, log: &mut Ring<Entry>)
-        ensures { roll_of log.new ≡ loss_log self.now.meters.time self.now.waiting unsaid (roll_of log.old) }
+        ensures { log.new ≡ loss_log self.now.meters.time self.now.waiting unsaid log.old }
     {
         if let Some(waiting) = self.waiting {
             if !unsaid {
@@ -53,7 +52,7 @@ impl Core {
 
     // Notes a frame's own fault.
     fn note_answer(&self, answer: Result<(), Fault>, log: &mut Ring<Entry>)
-        ensures { roll_of log.new ≡ own_log self.now.meters.time answer (roll_of log.old) }
+        ensures { log.new ≡ own_log self.now.meters.time answer log.old }
     {
         if let Err(fault) = answer {
             note(log, self.meters.time, fault.report());
@@ -122,7 +121,7 @@ impl<B: Board> Head<B> {
     fn request(&mut self, request: Request, log: &mut Ring<Entry>) -> Result<(), Fault>
         ensures answer { result ≡ judged self.old.core request }
         ensures became { state_of B.means self.new ≡ answered result request (state_of B.means self.old) }
-        ensures noted { roll_of log.new ≡ own_log self.old.core.meters.time result (loss_log self.old.core.meters.time self.old.core.waiting (is_unsaid result request) (roll_of log.old)) }
+        ensures noted { log.new ≡ own_log self.old.core.meters.time result (loss_log self.old.core.meters.time self.old.core.waiting (is_unsaid result request) log.old) }
     {
         let answer = self.core.judge(request);
         self.core.note_loss(goes_unsaid(answer, request), log);
@@ -137,7 +136,7 @@ impl<B: Board> Head<B> {
     // What the links hold is no command: what waits is lost.
     fn unread(&mut self, fault: Fault, log: &mut Ring<Entry>)
         ensures became { state_of B.means self.new ≡ taken_out (state_of B.means self.old) }
-        ensures noted { roll_of log.new ≡ refused self.old.core.meters.time fault (loss_log self.old.core.meters.time self.old.core.waiting false (roll_of log.old)) }
+        ensures noted { log.new ≡ refused self.old.core.meters.time fault (loss_log self.old.core.meters.time self.old.core.waiting false log.old) }
     {
         self.core.note_loss(false, log);
         note(log, self.core.meters.time, fault.report());
@@ -153,7 +152,7 @@ impl<B: Board> Head<B> {
     ) -> Result<(), Fault>
         ensures answer { result ≡ frame_answer primary.now redundant.now self.old.core }
         ensures became { state_of B.means self.new ≡ framed primary.now redundant.now (state_of B.means self.old) }
-        ensures noted { roll_of log.new ≡ frame_log primary.now redundant.now self.old.core (roll_of log.old) }
+        ensures noted { log.new ≡ frame_log primary.now redundant.now self.old.core log.old }
     {
         if primary.is_empty() && redundant.is_empty() {
             return Err(Fault::BothEmpty);

@@ -18,6 +18,7 @@ mod tick;
 pub use checks::{Check, Mark, Sample};
 pub use fault::{Fault, Note};
 pub use parameters::defaults;
+pub use records::Records;
 pub use tick::Due;
 
 #[derive(Clone, Copy, PartialEq, Eq, Debug)]

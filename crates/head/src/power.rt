@@ -3,11 +3,11 @@ ghost use Rattle.std.specs.Prelude.{◌≡◌, ◌<◌};
 ghost use Rattle.head.specs.Events.{powered_on};
 ghost use Rattle.head.specs.Logs.{kept_log, restored_log};
 ghost use Rattle.head.specs.Parameters.{restored as restored_at, restored_all};
-ghost use Rattle.head.specs.Rolls.{roll_of, emptied};
+ghost use Rattle.ring.specs.Rolls.{emptied};
 ghost use Rattle.head.specs.State.{state_of};
 
 use super::parameters::range_of;
-use super::records::note;
+use super::records::{Records, note};
 use super::{Core, Head, Meters, Mode, Note};
 use board::{Board, all_off};
 use codes::Entry;
@@ -20,7 +20,7 @@ const START: u32 = 1_000_000;
 fn restore(index: usize, value: u8, log: &mut Ring<Entry>) -> u8
     requires { index < 25 }
     ensures value { result ≡ restored_at index value }
-    ensures noted { roll_of log.new ≡ kept_log index value (roll_of log.old) }
+    ensures noted { log.new ≡ kept_log index value log.old }
 {
     let range = range_of(index);
     if range.allows(value) {
@@ -33,7 +33,7 @@ fn restore(index: usize, value: u8, log: &mut Ring<Entry>) -> u8
 // Every stored parameter, in order of index.
 fn restore_all(stored: [u8; 25], log: &mut Ring<Entry>) -> [u8; 25]
     ensures values { result ≡ restored_all stored }
-    ensures noted { roll_of log.new ≡ restored_log 25 stored (roll_of log.old) }
+    ensures noted { log.new ≡ restored_log 25 stored log.old }
 {
     let mut values = stored;
     for i in 0..25 {
@@ -45,21 +45,15 @@ fn restore_all(stored: [u8; 25], log: &mut Ring<Entry>) -> [u8; 25]
 impl<B: Board> Head<B> {
     /// A head on a board, from 25 stored parameters: everything off, in SAFE. The log and the rates are emptied; a
     /// stored parameter outside its range becomes its default, with a note.
-    pub fn power_on(
-        board: B,
-        stored: [u8; 25],
-        log: &mut Ring<Entry>,
-        rates: &mut Ring<u16>,
-    ) -> Head<B>
+    pub fn power_on(board: B, stored: [u8; 25], records: &mut Records) -> Head<B>
         ensures became { state_of B.means result ≡ powered_on stored }
-        ensures noted { roll_of log.new ≡ restored_log 25 stored (emptied (roll_of log.old)) }
-        ensures rates { roll_of rates.new ≡ emptied (roll_of rates.old) }
+        ensures noted { records.new.log ≡ restored_log 25 stored (emptied records.old.log) }
+        ensures rates { records.new.rates ≡ emptied records.old.rates }
     {
         let mut board = board;
         all_off(&mut board);
-        log.clear();
-        rates.clear();
-        let parameters = restore_all(stored, log);
+        records.clear();
+        let parameters = restore_all(stored, &mut records.log);
         let meters = Meters {
             time: START,
             tick: 0,

@@ -3,7 +3,6 @@ ghost use Rattle.std.specs.Prelude.{◌≡◌, [], ◌∷◌};
 ghost use Rattle.head.specs.Checks.{lowest as lowest_of};
 ghost use Rattle.head.specs.Events.{set_point, counts_after, count_trips, counts_are, tripped, sampled};
 ghost use Rattle.head.specs.Logs.{trip_log, sample_log};
-ghost use Rattle.head.specs.Rolls.{roll_of};
 ghost use Rattle.head.specs.State.{state_of};
 
 use super::checks::{anode_out, counted, lowest, plate_out, strip_out, trips};
@@ -60,7 +59,7 @@ impl<B: Board> Head<B> {
     // What a check that trips does: the safety timer is set, and with override 0 the mode turns.
     pub(super) fn trip(&mut self, lowest: Option<Check>, log: &mut Ring<Entry>)
         ensures became { state_of B.means self.new ≡ tripped lowest (state_of B.means self.old) }
-        ensures noted { roll_of log.new ≡ trip_log lowest self.old.core (roll_of log.old) }
+        ensures noted { log.new ≡ trip_log lowest self.old.core log.old }
     {
         let Some(check) = lowest else {
             return;
@@ -78,7 +77,7 @@ impl<B: Board> Head<B> {
     /// reached its limit.
     pub fn sample(&mut self, sample: Sample, log: &mut Ring<Entry>)
         ensures became { state_of B.means self.new ≡ sampled sample (state_of B.means self.old) }
-        ensures noted { roll_of log.new ≡ sample_log sample (state_of B.means self.old) (roll_of log.old) }
+        ensures noted { log.new ≡ sample_log sample (state_of B.means self.old) log.old }
     {
         self.count(sample);
         let lowest = self.core.count_trip();

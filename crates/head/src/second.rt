@@ -3,15 +3,12 @@ ghost use Rattle.std.specs.Prelude.{◌≡◌};
 ghost use Rattle.head.specs.Checks.{rate_at};
 ghost use Rattle.head.specs.Events.{second_answer, clocked, mark_trip, marked, seconded};
 ghost use Rattle.head.specs.Logs.{trip_log, second_log, second_rates};
-ghost use Rattle.head.specs.Rolls.{roll_of};
 ghost use Rattle.head.specs.State.{state_of};
 
 use super::checks::{lowest, rate, rate_trips, sensors_trip};
-use super::records::{join, note};
+use super::records::{Records, note};
 use super::{Check, Core, Fault, Head, Mark};
 use board::Board;
-use codes::Entry;
-use ring::Ring;
 
 /// The largest raw count: 24 bits.
 const LARGEST_RAW: u32 = 16_777_215;
@@ -40,25 +37,20 @@ impl<B: Board> Head<B> {
 
     /// A second has passed: the raw count gives a rate, and rate and temperatures are checked. A raw count of more
     /// than 24 bits is refused.
-    pub fn second(
-        &mut self,
-        mark: Mark,
-        log: &mut Ring<Entry>,
-        rates: &mut Ring<u16>,
-    ) -> Result<(), Fault>
+    pub fn second(&mut self, mark: Mark, records: &mut Records) -> Result<(), Fault>
         ensures answer { result ≡ second_answer mark }
         ensures became { state_of B.means self.new ≡ seconded mark (state_of B.means self.old) }
-        ensures noted { roll_of log.new ≡ second_log mark (state_of B.means self.old) (roll_of log.old) }
-        ensures rated { roll_of rates.new ≡ second_rates mark self.old.core (roll_of rates.old) }
+        ensures noted { records.new.log ≡ second_log mark (state_of B.means self.old) records.old.log }
+        ensures rated { records.new.rates ≡ second_rates mark self.old.core records.old.rates }
     {
         if mark.raw > LARGEST_RAW {
-            note(log, self.core.meters.time, Fault::RawCount.report());
+            note(&mut records.log, self.core.meters.time, Fault::RawCount.report());
             return Err(Fault::RawCount);
         }
-        join(rates, rate(self.core.meters.last, mark.raw));
+        records.rates.push(rate(self.core.meters.last, mark.raw));
         let lowest = self.core.mark_trip(mark);
         self.clock(mark);
-        self.trip(lowest, log);
+        self.trip(lowest, &mut records.log);
         Ok(())
     }
 }

@@ -2,7 +2,6 @@
 ghost use Rattle.std.specs.Prelude.{◌≡◌, ◌+◌, ◌%◌};
 ghost use Rattle.head.specs.Events.{ticked, sample_due, due_at};
 ghost use Rattle.head.specs.Logs.{tick_log};
-ghost use Rattle.head.specs.Rolls.{roll_of};
 ghost use Rattle.head.specs.State.{state_of};
 
 use super::records::note;
@@ -37,7 +36,7 @@ impl<B: Board> Head<B> {
     pub fn tick(&mut self, log: &mut Ring<Entry>) -> Due
         ensures answer { result ≡ due_at ((self.old.core.meters.tick + 1) % 200) }
         ensures became { state_of B.means self.new ≡ ticked (state_of B.means self.old) }
-        ensures noted { roll_of log.new ≡ tick_log self.old.core (roll_of log.old) }
+        ensures noted { log.new ≡ tick_log self.old.core log.old }
     {
         self.core.meters.tick = following(self.core.meters.tick);
         if let Some(waiting) = self.core.waiting {

@@ -1,6 +1,7 @@
 -- An event that came n times, and once more.
 use Rattle.std.proofs.Common.{◌≡◌, ℕ, suc, ◌-◌, ap, ◌∙◌, arith}
-use Rattle.head.specs.Rolls.{Roll, Log}
+use Rattle.ring.specs.Rolls.{Roll}
+use Rattle.head.specs.Rolls.{Log}
 use Rattle.head.specs.State.{State}
 use Rattle.interlock.specs.Events.{Event}
 use Rattle.interlock.specs.Runs.{next, shown_of, log_after, rates_after}

@@ -1,6 +1,7 @@
 -- What a line brings to a head, how often, and what is printed of it.
 use Rattle.std.specs.Prelude.{◌≡◌, ℕ, zero, suc, ◌-◌, [], None}
-use Rattle.head.specs.Rolls.{Roll, Log}
+use Rattle.ring.specs.Rolls.{Roll}
+use Rattle.head.specs.Rolls.{Log}
 use Rattle.head.specs.State.{State}
 use Rattle.interlock.specs.Events.{Event, tick, frame, sample, mark, not_due, reading}
 use Rattle.interlock.specs.Runs.{next, shown_of, log_after, rates_after}

@@ -1,6 +1,5 @@
 //! The head that is driven, how it is brought what a line says, and what is printed of it.
 ghost use Rattle.std.specs.Prelude.{◌≡◌, ◌<◌};
-ghost use Rattle.head.specs.Rolls.{roll_of};
 ghost use Rattle.head.specs.State.{state_of};
 ghost use Rattle.interlock.specs.Events.{event_of};
 ghost use Rattle.headrun.specs.Lines.{Brought, event_in, times_in, printed, printed_first};
@@ -57,7 +56,7 @@ fn bring_one<B: Board>(
     log: &mut Ring<Entry>,
     rates: &mut Ring<u16>,
 ) -> Shown
-    ensures { Brought 1 (event_of event.entry) (state_of B.means head.old) (state_of B.means head.new) (roll_of log.old) (roll_of log.new) (roll_of rates.old) (roll_of rates.new) result }
+    ensures { Brought 1 (event_of event.entry) (state_of B.means head.old) (state_of B.means head.new) log.old log.new rates.old rates.new result }
 {
     let mut steps = [Step::new(event)];
     bring(head, &mut steps, log, rates);
@@ -73,7 +72,7 @@ fn bring_times<B: Board>(
     rates: &mut Ring<u16>,
 ) -> Shown
     requires { 0 < times }
-    ensures { Brought times (event_of event.entry) (state_of B.means head.old) (state_of B.means head.new) (roll_of log.old) (roll_of log.new) (roll_of rates.old) (roll_of rates.new) result }
+    ensures { Brought times (event_of event.entry) (state_of B.means head.old) (state_of B.means head.new) log.old log.new rates.old rates.new result }
 {
     for _n in 1..times {
         let _ = bring_one(head, event, log, rates);
@@ -89,7 +88,7 @@ pub(super) fn bring_line<B: Board>(
     rates: &mut Ring<u16>,
 ) -> Shown
     requires { InRange line.now }
-    ensures { Brought (times_in line.now) (event_in line.now) (state_of B.means head.old) (state_of B.means head.new) (roll_of log.old) (roll_of log.new) (roll_of rates.old) (roll_of rates.new) result }
+    ensures { Brought (times_in line.now) (event_in line.now) (state_of B.means head.old) (state_of B.means head.new) log.old log.new rates.old rates.new result }
 {
     match line {
         EventLine::Frame(octets) => bring_one(

@@ -17,7 +17,8 @@ use Rattle.head.specs.Checks.{number_of, lowest}
 use Rattle.head.specs.Faults.{report_of, note_of}
 use Rattle.head.specs.Requests.{request_of, order_op, marked}
 use Rattle.head.specs.Parameters.{allowed}
-use Rattle.head.specs.Rolls.{Log, added, emptied, entry}
+use Rattle.ring.specs.Rolls.{added, emptied}
+use Rattle.head.specs.Rolls.{Log, entry}
 use Rattle.head.specs.Verdicts.{Answer, judged}
 use Rattle.head.specs.State.{State}
 use Rattle.head.specs.Effects.{is_entry}

@@ -2,7 +2,8 @@
 use Rattle.std.proofs.Common.{◌≡◌, ℕ, zero, suc, ◌+◌, ◌<◌, ◌≤◌, Bool, true, false, eqb, ◌≢◌, List, ◌∷◌, length, set, sym, refl, ap, ◌∙◌, subst, add-one, arith, length-set, get_or-set_other, get_or-set_same, below_more, eqb-true}
 use borrow.Author.Tests.{eqb-false}
 use Rattle.head.specs.State.{State}
-use Rattle.head.specs.Rolls.{Roll, Log}
+use Rattle.ring.specs.Rolls.{Roll}
+use Rattle.head.specs.Rolls.{Log}
 use Rattle.interlock.specs.Events.{Event, event_of}
 use Rattle.interlock.specs.Runs.{next, shown_of, log_after, rates_after, absent, step_at, event_at, state_after, log_after_all, rates_after_all, Ran}
 use Rattle.interlock.specs.History.{brought, Did, Past}

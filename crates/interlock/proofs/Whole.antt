@@ -4,7 +4,7 @@ use borrow.Author.Tests.{both_ways}
 use Rattle.std.proofs.lemmas.List.FromFn.{get_or-map-range_with_len, length-map-range_with_len}
 use Rattle.std.proofs.lemmas.List.{take-take}
 use Rattle.head.specs.Checks.{rate_at}
-use Rattle.head.specs.Rolls.{Roll, added}
+use Rattle.ring.specs.Rolls.{Roll, added}
 use Rattle.board.specs.Meaning.{Outputs, Whole, with_line, dark}
 use Rattle.board.specs.declared.line_state.LineState.TheVariants.{Off}
 use Rattle.codes.specs.declared.Report.{Report}

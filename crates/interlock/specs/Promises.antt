@@ -3,7 +3,7 @@ use Rattle.std.specs.Prelude.{◌≡◌, ℕ, zero, suc, ◌+◌, ◌-◌, ◌%�
 use Rattle.telecommand.specs.Packet.{word}
 use Rattle.head.specs.Requests.{marked}
 use Rattle.head.specs.Events.{powered_on}
-use Rattle.head.specs.Rolls.{Roll}
+use Rattle.ring.specs.Rolls.{Roll}
 use Rattle.head.specs.State.{State}
 use Rattle.head.specs.declared.Mode.TheVariants.{Checkout}
 use Rattle.interlock.specs.Events.{Event, reading, not_due}

@@ -4,7 +4,8 @@ use Rattle.codes.specs.declared.Report.{Report}
 use Rattle.head.specs.Faults.{report_of}
 use Rattle.head.specs.Verdicts.{Answer}
 use Rattle.head.specs.State.{State}
-use Rattle.head.specs.Rolls.{Roll, Log}
+use Rattle.ring.specs.Rolls.{Roll}
+use Rattle.head.specs.Rolls.{Log}
 use Rattle.head.specs.Events.{frame_answer, framed, ticked, due_at, sampled, second_answer, seconded}
 use Rattle.head.specs.Logs.{frame_log, tick_log, sample_log, second_log, second_rates}
 use Rattle.head.specs.declared.tick.Due.{Due}

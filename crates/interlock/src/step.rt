@@ -3,7 +3,6 @@ ghost use Rattle.std.specs.Prelude.{◌≡◌, ◌<◌, None, slice_index_or};
 ghost use Rattle.board.specs.Lines.{is_on};
 ghost use Rattle.board.specs.declared.line_state.LineState.TheVariants.{Off};
 ghost use Rattle.head.specs.State.{state_of};
-ghost use Rattle.head.specs.Rolls.{roll_of};
 ghost use Rattle.interlock.specs.Events.{event_of, unseen, not_due, lines_read, reading};
 ghost use Rattle.interlock.specs.Runs.{fault_of, next, shown_of, log_after, rates_after};
 
@@ -129,8 +128,8 @@ pub(super) fn bring_one<B: Board>(
 ) -> Shown
     ensures shown { result ≡ shown_of (state_of B.means head.old) (event_of event.entry) }
     ensures became { state_of B.means head.new ≡ next (state_of B.means head.old) (event_of event.entry) }
-    ensures noted { roll_of log.new ≡ log_after (state_of B.means head.old) (event_of event.entry) (roll_of log.old) }
-    ensures rated { roll_of rates.new ≡ rates_after (state_of B.means head.old) (event_of event.entry) (roll_of rates.old) }
+    ensures noted { log.new ≡ log_after (state_of B.means head.old) (event_of event.entry) log.old }
+    ensures rated { rates.new ≡ rates_after (state_of B.means head.old) (event_of event.entry) rates.old }
 {
     match event {
         Event::Tick => {

@@ -1,17 +1,12 @@
--- The slots of a ring as a list, newest first: what one record more does to it, and where the record of an age stands.
-use Rattle.std.proofs.Common.{◌≡◌, ℕ, suc, ◌+◌, ◌-◌, ◌<◌, ◌≤◌, ◌⊎◌, List, [], ◌∷◌, ◌++◌, reverse, length, get_or, take, drop, set, Some, sym, ap, ◌∙◌, inl, inr, append_assoc, add-one, arith}
-use Rattle.std.specs.List.{slice_get}
-use Rattle.std.proofs.lemmas.List.{length-append, length-reverse, length-take-le, length-drop, take-append-drop, reverse-append, drop_more, take_more_set, drop-set-lt, set_split, drop_all, take-append-le, take_all, take-take, get_or-take, get_or-drop, get_or-reverse, get_or_append_left, get_or-append_right, append-nil}
-use Rattle.std.proofs.lemmas.Option.{slice_get-get_or}
-use Rattle.ring.specs.Held.{back_from}
+-- The slots of a ring as a list, newest first: what one record more does to it.
+use Rattle.std.proofs.Common.{◌≡◌, ℕ, suc, ◌+◌, ◌<◌, ◌≤◌, ◌⊎◌, List, [], ◌∷◌, ◌++◌, reverse, length, get_or, take, drop, set, sym, ap, ◌∙◌, inl, inr, append_assoc, add-one, arith}
+use Rattle.std.proofs.lemmas.List.{length-append, length-reverse, length-take-le, take-append-drop, reverse-append, drop_more, take_more_set, drop-set-lt, set_split, drop_all, take-append-le, take_all, take-take, append-nil}
+use Rattle.ring.specs.Rolls.{back_from}
 
 pub back_length : {T : Type 0} (s : List T) (n : ℕ) → length (back_from s n) ≡ length s
 back_length s n =
     let e : length (take n s ++ drop n s) ≡ length s = ap length (take-append-drop n s) in
     length-append (reverse (take n s)) (reverse (drop n s)) ∙ (rw (length-reverse (take n s), length-reverse (drop n s)) (sym (length-append (take n s) (drop n s)) ∙ e))
-
-pub held_length : {T : Type 0} (s : List T) (n c : ℕ) → c ≤ length s → length (take c (back_from s n)) ≡ c
-held_length s n c h = length-take-le c (back_from s n) (rw (back_length s n) h)
 
 -- the records but the oldest slot's, newest first
 abbrev pub mid : {T : Type 0} → List T → ℕ → List T
@@ -86,30 +81,3 @@ pub pushed : {T : Type 0} (s : List T) (n n' c c' : ℕ) (x : T) → n < length 
 pushed s n n' c c' x h k on up =
     let l = mid_length s n x h in
     rw (back_on s n n' x h on, back_old s n x h, l) (take_up (mid s n) x (get_or s n x) c c' (rw l at k) (rw l at up))
-
--- which slot has the record of an age
-at_age : {T : Type 0} (s : List T) (n c a : ℕ) (d : T) → c ≤ length s → a < c → slice_get (take c (back_from s n)) a ≡ Some (get_or (back_from s n) a d)
-at_age {T = T} s n c a d h k =
-    let e = held_length s n c h in
-    slice_get-get_or (take c (back_from s n)) a d (omega arith) ∙ ap (λ (z : T). Some z) (get_or-take c (back_from s n) a d k)
-
-pub place_new : {T : Type 0} (s : List T) (n c a : ℕ) (d : T) → c ≤ length s → a < c → a < n → n < length s → slice_get (take c (back_from s n)) a ≡ Some (get_or s (n - 1 - a) d)
-place_new {T = T} s n c a d h k l m =
-    let t : length (take n s) ≡ n = length-take-le n s (omega arith) in
-    let r = length-reverse (take n s) in
-    let q : n - 1 - a < n = omega arith in
-    at_age s n c a d h k
-    ∙ ap (λ (z : T). Some z)
-    (get_or_append_left (reverse (take n s)) (reverse (drop n s)) d a (omega arith)
-    ∙ (get_or-reverse (take n s) a d (omega arith) ∙ rw t (get_or-take n s (n - 1 - a) d q)))
-
-pub place_old : {T : Type 0} (s : List T) (n c a : ℕ) (d : T) → c ≤ length s → a < c → n ≤ a → n < length s → slice_get (take c (back_from s n)) a ≡ Some (get_or s (length s - 1 - (a - n)) d)
-place_old {T = T} s n c a d h k l m =
-    let t : length (take n s) ≡ n = length-take-le n s (omega arith) in
-    let r : length (reverse (take n s)) ≡ n = length-reverse (take n s) ∙ t in
-    let u = length-drop n s in
-    let q : n + (length s - n - 1 - (a - n)) ≡ length s - 1 - (a - n) = omega arith in
-    at_age s n c a d h k
-    ∙ ap (λ (z : T). Some z)
-    (get_or-append_right (reverse (take n s)) (reverse (drop n s)) n a d r l
-    ∙ (get_or-reverse (drop n s) (a - n) d (omega arith) ∙ rw (u, get_or-drop, q)))

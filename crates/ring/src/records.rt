@@ -1,15 +1,14 @@
 //! What a ring does: take a record, forget all, say how many it holds, give one by its age.
-ghost use Rattle.std.specs.Prelude.{◌≡◌, [], ◌∷◌, length, take};
+ghost use Rattle.std.specs.Prelude.{◌≡◌, [], length};
 ghost use Rattle.std.specs.List.{slice_get};
-ghost use Rattle.ring.specs.Held.{held, capacity};
+ghost use Rattle.ring.specs.Rolls.{added, emptied};
 
 use super::Ring;
 
 impl<'a, T: Copy> Ring<'a, T> {
     /// An empty ring over the slots.
     pub fn new(slots: &'a mut [T]) -> Self
-        ensures empty { held result ≡ [] }
-        ensures size { capacity result ≡ length slots.old }
+        ensures { result ≡ record { room = length slots.old; items = [] } }
     {
         Ring {
             slots,
@@ -20,22 +19,21 @@ impl<'a, T: Copy> Ring<'a, T> {
 
     /// Forgets every record.
     pub fn clear(&mut self)
-        ensures empty { held self.new ≡ [] }
-        ensures size { capacity self.new ≡ capacity self.old }
+        ensures { self.new ≡ emptied self.old }
     {
         self.count = 0;
     }
 
     /// How many records it holds.
     pub fn len(&self) -> usize
-        ensures { result ≡ length (held self.now) }
+        ensures { result ≡ length self.now.items }
     {
         self.count
     }
 
     /// The record of an age, 0 being the newest, or none where fewer are held.
     pub fn get(&self, age: usize) -> Option<T>
-        ensures { result ≡ slice_get (held self.now) age }
+        ensures { result ≡ slice_get self.now.items age }
     {
         if age >= self.count {
             return None;
@@ -51,8 +49,7 @@ impl<'a, T: Copy> Ring<'a, T> {
 
     /// Takes one record more; where every slot is used, the oldest gives way.
     pub fn push(&mut self, newest: T)
-        ensures holds { held self.new ≡ take (capacity self.old) (newest ∷ held self.old) }
-        ensures size { capacity self.new ≡ capacity self.old }
+        ensures { self.new ≡ added newest self.old }
     {
         let size = self.slots.len();
         if size == 0 {

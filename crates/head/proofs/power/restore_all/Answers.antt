@@ -2,7 +2,6 @@ use Rattle.std.proofs.Common.{◌≡◌, ℕ, get_or, refl, ap, ◌∙◌, subst
 use Rattle.std.proofs.lemmas.List.FromFn.{fill_by_all}
 use Rattle.head.specs.Logs.{kept_log, restored_log}
 use Rattle.head.specs.Parameters.{restored}
-use Rattle.head.specs.Rolls.{roll_of}
 use Rattle.head.proofs.Halfway.{wrote}
 use Rattle.head.proofs.power.restore_all.Goals as goal
 
@@ -24,5 +23,5 @@ returns c =
     let end : c.loop-i.i ≡ 25 = omega arith in
     record {
       values = fill_by_all (λ i. restored i (get_or c.args.stored i 0)) c.loop-i.values 25 0 inv.0.size (λ k h. inv.0.front k (omega arith));
-      noted = subst (λ (n : ℕ). roll_of c.loop-i.log ≡ restored_log n c.args.stored (roll_of c.args.log.now)) end inv.1;
+      noted = subst (λ (n : ℕ). c.loop-i.log ≡ restored_log n c.args.stored c.args.log.now) end inv.1;
     }

@@ -1,11 +1,10 @@
 use Rattle.std.proofs.Common.{◌≡◌, get_or}
 use Rattle.head.specs.Logs.{restored_log}
 use Rattle.head.specs.Parameters.{restored}
-use Rattle.head.specs.Rolls.{roll_of}
 use Rattle.head.proofs.Halfway.{Halfway}
 use Rattle.head.proofs.power.restore_all.Given as goal
 
 abbrev pub invariant-loop-i : goal.invariant-loop-i
 invariant-loop-i l =
     Halfway 0 (λ k. restored k (get_or l.stored k 0)) (λ k. get_or l.stored k 0) 25 l.values l.i
-    × (roll_of l.log ≡ restored_log l.i l.stored (roll_of l.initial.log))
+    × (l.log ≡ restored_log l.i l.stored l.initial.log)

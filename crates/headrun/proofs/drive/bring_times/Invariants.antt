@@ -1,5 +1,4 @@
 use Rattle.std.proofs.Common.{◌≡◌, ◌-◌}
-use Rattle.head.specs.Rolls.{roll_of}
 use Rattle.head.specs.State.{state_of}
 use Rattle.interlock.specs.Events.{event_of}
 use Rattle.headrun.specs.Lines.{after_times, log_times, rates_times}
@@ -12,5 +11,5 @@ invariant-loop-n g l =
     let s = state_of m l.initial.head in
     let e = event_of l.event in
     (state_of m l.head ≡ after_times (l._n - 1) e s)
-    × (roll_of l.log ≡ log_times (l._n - 1) e s (roll_of l.initial.log))
-    × (roll_of l.rates ≡ rates_times (l._n - 1) e s (roll_of l.initial.rates))
+    × (l.log ≡ log_times (l._n - 1) e s l.initial.log)
+    × (l.rates ≡ rates_times (l._n - 1) e s l.initial.rates)

@@ -1,6 +1,5 @@
 use Rattle.std.proofs.Common.{◌≡◌, ℕ, length, sym, refl, subst, arith}
 use Rattle.head.specs.State.{state_of}
-use Rattle.head.specs.Rolls.{roll_of}
 use Rattle.interlock.specs.Runs.{Ran}
 use Rattle.interlock.proofs.Runs.{ran_none, ran_more, run_stands, run_rates, run_log}
 use Rattle.interlock.proofs.run.bring.Goals as goal
@@ -17,5 +16,5 @@ pub returns : goal.returns
 returns g c =
     let m = g.B.Board.means in
     let end : c.loop-i.i ≡ length c.args.steps.now = omega arith in
-    let all = subst (λ (n : ℕ). Ran n c.args.steps.now c.loop-i.steps (state_of m c.args.head.now) (state_of m c.loop-i.head) (roll_of c.args.log.now) (roll_of c.loop-i.log) (roll_of c.args.rates.now) (roll_of c.loop-i.rates)) end c.loop-i.invariant in
+    let all = subst (λ (n : ℕ). Ran n c.args.steps.now c.loop-i.steps (state_of m c.args.head.now) (state_of m c.loop-i.head) c.args.log.now c.loop-i.log c.args.rates.now c.loop-i.rates) end c.loop-i.invariant in
     record { ran = all; promised = λ h led. run_stands _ _ _ _ _ _ _ _ _ all h led (sym all.as_many); logged = λ h led held. run_log _ _ _ _ _ _ _ _ _ all h led (sym all.as_many) held; rates = λ h led held. run_rates _ _ _ _ _ _ _ _ _ all h led (sym all.as_many) held }

@@ -1,5 +1,5 @@
 use Rattle.std.proofs.Common.{◌≡◌, ℕ, zero, suc, List, [], ◌∷◌, take, sym, refl, subst}
-use Rattle.head.specs.Rolls.{emptied, roll_of}
+use Rattle.ring.specs.Rolls.{emptied}
 use Rattle.interlock.specs.Promises.{begins, Follows, begun, RatesHeld}
 use Rattle.interlock.specs.Logged.{LogHeld}
 use Rattle.interlock.proofs.Runs.{ran_from}
@@ -15,10 +15,10 @@ returns g c =
     let on = c.power_on-head.ensures in
     let first = begins c.args.stored ∷ [] in
     let led = subst (Follows first) (sym on.became) (begun c.args.stored) in
-    let bare : RatesHeld first (emptied (roll_of c.args.rates.now)) = none (roll_of c.args.rates.now).room in
+    let bare : RatesHeld first (emptied c.args.rates.now) = none c.args.rates.now.room in
     record {
       ran = ran_from _ _ _ _ _ _ _ _ _ _ _ _ on.became on.noted on.rates c.bring.ensures.ran;
       promised = c.bring.ensures.promised first led;
-      logged = c.bring.ensures.logged first led (subst (LogHeld first) (sym on.noted) (log_begins c.args.stored (roll_of c.args.log.now)));
+      logged = c.bring.ensures.logged first led (subst (LogHeld first) (sym on.noted) (log_begins c.args.stored c.args.log.now));
       rates = c.bring.ensures.rates first led (subst (RatesHeld first) (sym on.rates) bare);
     }
