@@ -1,7 +1,9 @@
 -- What a command asks of the head, and what holds of it whatever the head's state.
-use Rattle.std.specs.Prelude.{ℕ, Bool, true, false, cond, Some, None, Option, ◌==◌, slice_index}
+use Rattle.std.specs.Prelude.{◌≡◌, ℕ, Bool, true, false, cond, Some, None, Option, ◌==◌, slice_index}
 use Rattle.telecommand.specs.Packet.{word}
 use Rattle.telecommand.specs.Commands.{Telecommand, kind_in, commands, kind}
+use Rattle.telecommand.specs.Shown.{said}
+use Rattle.telecommand.specs.declared.command.Command.{Command}
 use Rattle.telecommand.specs.declared.kinds.Kind.{Kind}
 use Rattle.head.specs.declared.Order.{Order}
 use Rattle.head.specs.declared.Order.TheVariants.{SetParameter, OpenDoor, SetSupply, FireRelease}
@@ -69,3 +71,7 @@ marked op = kind_or (kind_in commands op)
 -- refused in SAFE, by the mark of its op-code
 abbrev pub barred : Request → Bool
 barred q = (marked (op_of q)).not_in_safe
+
+-- what a command asks, critical exactly where the table of commands marks its op-code so
+abbrev pub Asks : Command → Request → Type 0
+Asks command request = (request ≡ request_of (said command)) × (is_critical request ≡ (marked (op_of request)).critical)

@@ -6,38 +6,22 @@ use super::parameters::{LARGEST_SET_POINT, OVERRIDE, range_of};
 use super::request::Request;
 use super::{Core, Fault, Mode, Order, Waiting};
 
-impl Mode {
-    pub(super) fn is_safe(self) -> bool
-        ensures { result ≡ in_safe self }
-    {
-        match self {
-            Mode::Safe => true,
-            Mode::Checkout => false,
-        }
-    }
-}
-
 impl Request {
     // Whether it asks for CHECKOUT.
     fn is_checkout(self) -> bool
         ensures { result ≡ is_checkout self }
     {
-        match self {
-            Request::Checkout => true,
-            _ => false,
-        }
+        matches!(self, Request::Checkout)
     }
 
     // Whether it asks for a drive.
     fn drives(self) -> bool
         ensures { result ≡ is_drive self }
     {
-        match self {
-            Request::CloseDoor
-            | Request::Critical(Order::OpenDoor)
-            | Request::Critical(Order::FireRelease(_, _)) => true,
-            _ => false,
-        }
+        matches!(
+            self,
+            Request::CloseDoor | Request::Critical(Order::OpenDoor | Order::FireRelease(_, _))
+        )
     }
 
     // Whether octet 8 of its frame is in its range.
@@ -58,11 +42,7 @@ impl Request {
 fn in_range(index: u8, value: u8) -> bool
     ensures { result ≡ allowed_at index value }
 {
-    if index < 25 {
-        range_of(usize::from(index)).allows(value)
-    } else {
-        false
-    }
+    index < 25 && range_of(usize::from(index)).allows(value)
 }
 
 impl Core {
@@ -72,8 +52,8 @@ impl Core {
     {
         match request {
             Request::Critical(Order::SetParameter(index, value)) => in_range(index, value),
-            Request::Critical(Order::SetSupply(_, set_point)) => 1 <= set_point
-                && set_point <= self.parameters[LARGEST_SET_POINT],
+            Request::Critical(Order::SetSupply(_, set_point)) =>
+                (1..=self.parameters[LARGEST_SET_POINT]).contains(&set_point),
             Request::Critical(Order::FireRelease(_, period)) => 1 <= period,
             Request::Heater(_, value) => value <= 1,
             _ => true,
@@ -84,10 +64,7 @@ impl Core {
     pub(super) fn busy(&self) -> bool
         ensures { result ≡ busy_by self.now.drive }
     {
-        match self.drive {
-            None => false,
-            Some(_) => true,
-        }
+        self.drive.is_some()
     }
 
     // Whether the safety timer bars CHECKOUT.
@@ -102,7 +79,7 @@ impl Core {
         ensures { result ≡ allowed self.now request }
     {
         let opcode = request.opcode();
-        if self.mode.is_safe() && request.barred() {
+        if self.mode == Mode::Safe && request.barred() {
             return Err(Fault::NotInSafe(opcode));
         }
         if !request.first_fits() {
@@ -127,10 +104,8 @@ impl Core {
         if opcode != waiting.order.opcode() || complement != !opcode {
             return Err(Fault::WrongConfirm);
         }
-        match self.allows(Request::Critical(waiting.order)) {
-            Ok(()) => Ok(()),
-            Err(_) => Err(Fault::ConfirmFailed),
-        }
+        self.allows(Request::Critical(waiting.order))
+            .map_err(|_| Fault::ConfirmFailed)
     }
 
     // What a request is answered.

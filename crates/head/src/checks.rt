@@ -22,13 +22,7 @@ impl Check {
         ensures value { result ≡ number_of self }
         ensures bound { result < 5 }
     {
-        match self {
-            Check::Plate => 0,
-            Check::Strip => 1,
-            Check::Anode => 2,
-            Check::Rate => 3,
-            Check::Temperature => 4,
-        }
+        self as u8
     }
 }
 
@@ -106,10 +100,7 @@ pub(super) fn trips(parameters: &[u8; 25], c: usize, count: u8) -> bool
 pub(super) fn rate(before: Option<u32>, raw: u32) -> u16
     ensures { result ≡ rate_at before raw }
 {
-    match before {
-        Some(count) => rate_between(count, raw),
-        None => 0,
-    }
+    before.map_or(0, |count| rate_between(count, raw))
 }
 
 // What the raw count rose by, modulo 16,777,216, at most 65,535.

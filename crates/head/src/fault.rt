@@ -58,11 +58,11 @@ fn gives(layer: u8, code: u8, place: u16, opcode: u16) -> Report
     }
 }
 
-impl Fault {
-    pub fn report(self) -> Report
-        ensures { result ≡ report_of self }
-    {
-        match self {
+impl From<Fault> for Report {
+    ghost from_gives = { λ fault report. report ≡ report_of fault };
+
+    fn from(fault: Fault) -> Report {
+        match fault {
             Fault::BothEmpty => gives(1, 0x11, 0, 0),
             Fault::Unread(fault) => fault.report(),
             Fault::NotInSafe(opcode) => gives(2, 0x23, 6, opcode),
@@ -78,11 +78,11 @@ impl Fault {
     }
 }
 
-impl Note {
-    pub fn report(self) -> Report
-        ensures { result ≡ note_of self }
-    {
-        match self {
+impl From<Note> for Report {
+    ghost from_gives = { λ note report. report ≡ note_of note };
+
+    fn from(note: Note) -> Report {
+        match note {
             Note::Lost(opcode) => gives(2, 0x26, 6, opcode),
             Note::Late(opcode) => gives(2, 0x28, 6, opcode),
             Note::Tripped(check) => gives(4, 0x60 + check.number(), u16::from(check.number()), 0),

@@ -25,13 +25,14 @@ const PATIENCE: u16 = 2000;
 fn goes_unsaid(answer: Result<(), Fault>, request: Request) -> bool
     ensures { result ≡ is_unsaid answer request }
 {
-    match (answer, request) {
-        (Ok(()), Request::Confirm(_, _)) => true,
-        (Err(Fault::CriticalWaits(_)), _) => true,
-        (Err(Fault::WrongConfirm), _) => true,
-        (Err(Fault::ConfirmFailed), _) => true,
-        _ => false,
-    }
+    matches!(
+        (answer, request),
+        (Ok(()), Request::Confirm(_, _))
+            | (
+                Err(Fault::CriticalWaits(_) | Fault::WrongConfirm | Fault::ConfirmFailed),
+                _
+            )
+    )
 }
 
 impl Core {
@@ -44,7 +45,7 @@ impl Core {
                 note(
                     log,
                     self.meters.time,
-                    Note::Lost(waiting.order.opcode()).report(),
+                    Note::Lost(waiting.order.opcode()).into(),
                 );
             }
         }
@@ -55,7 +56,7 @@ impl Core {
         ensures { log.new ≡ own_log self.now.meters.time answer log.old }
     {
         if let Err(fault) = answer {
-            note(log, self.meters.time, fault.report());
+            note(log, self.meters.time, fault.into());
         }
     }
 }
@@ -127,7 +128,7 @@ impl<B: Board> Head<B> {
         self.core.note_loss(goes_unsaid(answer, request), log);
         self.core.note_answer(answer, log);
         let taken = self.core.waiting.take();
-        if let Ok(()) = answer {
+        if answer.is_ok() {
             self.carry_out(taken, request);
         }
         answer
@@ -139,7 +140,7 @@ impl<B: Board> Head<B> {
         ensures noted { log.new ≡ refused self.old.core.meters.time fault (loss_log self.old.core.meters.time self.old.core.waiting false log.old) }
     {
         self.core.note_loss(false, log);
-        note(log, self.core.meters.time, fault.report());
+        note(log, self.core.meters.time, fault.into());
         self.core.waiting = None;
     }
 
@@ -161,7 +162,7 @@ impl<B: Board> Head<B> {
             note(log, self.core.meters.time, fault.report());
         }
         match read(primary, redundant) {
-            Ok(command) => self.request(Request::of(command), log),
+            Ok(command) => self.request(command.into(), log),
             Err(fault) => {
                 self.unread(Fault::Unread(fault), log);
                 Err(Fault::Unread(fault))

@@ -181,7 +181,7 @@ impl Range {
     pub(super) fn allows(&self, value: u8) -> bool
         ensures { result ≡ within self.now value }
     {
-        self.lowest <= value && value <= self.highest
+        (self.lowest..=self.highest).contains(&value)
     }
 }
 
@@ -189,9 +189,9 @@ impl Range {
 pub fn defaults() -> [u8; 25]
     ensures { result ≡ usuals }
 {
-    let mut values = [0; 25];
-    for i in 0..25 {
-        values[i] = range_of(i).default;
-    }
-    values
+    PARAMETERS.map(
+        |range| -> u8
+            ensures { result ≡ range.default }
+        { range.default },
+    )
 }

@@ -26,7 +26,7 @@ fn restore(index: usize, value: u8, log: &mut Ring<Entry>) -> u8
     if range.allows(value) {
         return value;
     }
-    note(log, START, Note::Replaced(index as u8).report());
+    note(log, START, Note::Replaced(index as u8).into());
     range.default
 }
 
@@ -36,8 +36,8 @@ fn restore_all(stored: [u8; 25], log: &mut Ring<Entry>) -> [u8; 25]
     ensures noted { log.new ≡ restored_log 25 stored log.old }
 {
     let mut values = stored;
-    for i in 0..25 {
-        values[i] = restore(i, stored[i], log);
+    for (i, value) in values.iter_mut().enumerate() {
+        *value = restore(i, *value, log);
     }
     values
 }

@@ -2,7 +2,7 @@
 ghost use Rattle.std.specs.Prelude.{◌≡◌, ◌<◌, slice_index};
 ghost use Rattle.telecommand.specs.Shown.{said};
 ghost use Rattle.telecommand.specs.Packet.{word};
-ghost use Rattle.head.specs.Requests.{request_of, op_of, order_op, is_critical, marked, barred as barred_by};
+ghost use Rattle.head.specs.Requests.{Asks, op_of, order_op, barred as barred_by};
 
 use super::Order;
 use telecommand::{Command, kind_of};
@@ -26,7 +26,7 @@ pub enum Request {
 fn octet(words: &[u8], i: usize) -> u8
     ensures { result ≡ slice_index words.now i }
 {
-    if i < words.len() { words[i] } else { 0 }
+    words.get(i).copied().unwrap_or(0)
 }
 
 // The word in the octets `i` and `i + 1`, high first.
@@ -34,7 +34,7 @@ fn word_at(words: &[u8], i: usize) -> u16
     requires { i < 9 }
     ensures { result ≡ word words.now i }
 {
-    u16::from(octet(words, i)) * 256 + u16::from(octet(words, i + 1))
+    u16::from_be_bytes([octet(words, i), octet(words, i + 1)])
 }
 
 impl Order {
@@ -50,12 +50,10 @@ impl Order {
     }
 }
 
-impl Request {
-    // What a command asks.
-    pub(super) fn of(command: Command) -> Request
-        ensures asks { result ≡ request_of (said command.entry) }
-        ensures listed { is_critical result ≡ (marked (op_of result)).critical }
-    {
+impl<'a> From<Command<'a>> for Request {
+    ghost from_gives = { Asks };
+
+    fn from(command: Command<'a>) -> Request {
         match command {
             Command::NoOperation => Request::Nothing,
             Command::Safe => Request::Safe,
@@ -79,7 +77,9 @@ impl Request {
             )),
         }
     }
+}
 
+impl Request {
     pub(super) fn opcode(self) -> u16
         ensures { result ≡ op_of self }
     {
@@ -99,9 +99,6 @@ impl Request {
     pub(super) fn barred(self) -> bool
         ensures { result ≡ barred_by self }
     {
-        match kind_of(self.opcode()) {
-            Some(kind) => kind.not_in_safe,
-            None => false,
-        }
+        kind_of(self.opcode()).is_some_and(|kind| kind.not_in_safe)
     }
 }

@@ -83,11 +83,9 @@ impl<B: Board> Head<B> {
     fn shut_door(&mut self)
         ensures { state_of B.means self.new ≡ shut (state_of B.means self.old) }
     {
-        if let None = self.core.drive {
-            if self.core.parameters[CLOSE_ON_SAFE] == 1 {
-                let ticks = self.core.door_ticks();
-                self.start(CLOSING, ticks);
-            }
+        if self.core.drive.is_none() && self.core.parameters[CLOSE_ON_SAFE] == 1 {
+            let ticks = self.core.door_ticks();
+            self.start(CLOSING, ticks);
         }
     }
 

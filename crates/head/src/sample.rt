@@ -68,7 +68,7 @@ impl<B: Board> Head<B> {
         if self.core.parameters[OVERRIDE] == 0 {
             let time = self.core.meters.time;
             if self.turn(Turn::Trip) {
-                note(log, time, Note::Tripped(check).report());
+                note(log, time, Note::Tripped(check).into());
             }
         }
     }

@@ -44,7 +44,11 @@ impl<B: Board> Head<B> {
         ensures rated { records.new.rates ≡ second_rates mark self.old.core records.old.rates }
     {
         if mark.raw > LARGEST_RAW {
-            note(&mut records.log, self.core.meters.time, Fault::RawCount.report());
+            note(
+                &mut records.log,
+                self.core.meters.time,
+                Fault::RawCount.into(),
+            );
             return Err(Fault::RawCount);
         }
         records.rates.push(rate(self.core.meters.last, mark.raw));

@@ -45,12 +45,12 @@ impl<B: Board> Head<B> {
                 note(
                     log,
                     self.core.meters.time,
-                    Note::Late(waiting.order.opcode()).report(),
+                    Note::Late(waiting.order.opcode()).into(),
                 );
             } else {
                 self.core.waiting = Some(Waiting {
-                    order: waiting.order,
                     left: waiting.left - 1,
+                    ..waiting
                 });
             }
         }
@@ -60,8 +60,8 @@ impl<B: Board> Head<B> {
                 self.core.drive = None;
             } else {
                 self.core.drive = Some(Drive {
-                    line: drive.line,
                     left: drive.left - 1,
+                    ..drive
                 });
             }
         }
