@@ -89,6 +89,7 @@ pub(super) fn counted(out: bool, count: u8) -> u8
 }
 
 // Whether check `c`, one of the first three, trips at a count.
+#[tactic(auto, unfolding(crate::specs::Checks::masked))]
 pub(super) fn trips(parameters: &[u8; 25], c: usize, count: u8) -> bool
     requires { c < 3 }
     ensures { result ≡ reached parameters.now c count }
@@ -104,6 +105,7 @@ pub(super) fn rate(before: Option<u32>, raw: u32) -> u16
 }
 
 // What the raw count rose by, modulo 16,777,216, at most 65,535.
+#[tactic(auto, unfolding(crate::specs::Checks::rate))]
 fn rate_between(before: u32, raw: u32) -> u16
     ensures { result ≡ rate_of before raw }
 {
@@ -112,6 +114,7 @@ fn rate_between(before: u32, raw: u32) -> u16
 }
 
 // Whether check 3 trips at a rate.
+#[tactic(auto, unfolding(crate::specs::Checks::masked))]
 pub(super) fn rate_trips(parameters: &[u8; 25], rate: u16) -> bool
     ensures { result ≡ rate_trips parameters.now rate }
 {
@@ -131,6 +134,7 @@ fn any_warm(parameters: &[u8; 25], temperatures: [u8; 8]) -> bool
 }
 
 // Whether check 4 trips at these temperatures.
+#[tactic(auto, unfolding(crate::specs::Checks::masked))]
 pub(super) fn sensors_trip(parameters: &[u8; 25], temperatures: [u8; 8]) -> bool
     ensures { result ≡ sensors_trip parameters.now temperatures }
 {

@@ -37,6 +37,7 @@ impl<B: Board> Head<B> {
     }
 
     // Counts the failures of each check.
+    #[tactic(auto, unfolding(crate::specs::Checks::out))]
     fn count(&mut self, sample: Sample)
         ensures { state_of B.means self.new ≡ counts_are (counts_after sample (state_of B.means self.old)) (state_of B.means self.old) }
     {

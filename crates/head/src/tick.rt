@@ -25,6 +25,7 @@ fn following(tick: u8) -> u8
 }
 
 // Whether a sample is due at a tick number.
+#[tactic(auto, unfolding(crate::specs::Events::sample_due))]
 fn sample_due(tick: u8) -> bool
     ensures { result ≡ sample_due tick }
 {
