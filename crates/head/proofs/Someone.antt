@@ -7,6 +7,3 @@ use Rattle.head.specs.Checks.{some_below}
 module _ (f : ℕ → Bool) where
   pub some_at : (n i : ℕ) → i < n → f i ≡ true → some_below f n ≡ true
   some_at n i h e = (Decides-below_or f (λ k. f k ≡ true) (some_below f) (λ k. ((λ p. p), (λ p. p))) refl (λ _. refl) n).1 (i, h, e)
-
-  pub none_more : (i : ℕ) → some_below f i ≡ false → f i ≡ false → some_below f (i + 1) ≡ false
-  none_more i below here = rw add-one (or_from (f i) (some_below f i) here below)

@@ -10,25 +10,17 @@ ghost use Rattle.interlock.specs.Runs.{Ran};
 
 use super::step::{Step, bring_one};
 use board::Board;
-use codes::Entry;
-use head::Head;
-use ring::Ring;
+use head::{Head, Records};
 
 /// Brings a head that runs already each event in turn, and writes down what came of it.
-pub fn bring<B: Board>(
-    head: &mut Head<B>,
-    steps: &mut [Step],
-    log: &mut Ring<Entry>,
-    rates: &mut Ring<u16>,
-)
-    ensures ran { Ran (length steps.old) steps.old steps.new (state_of B.means head.old) (state_of B.means head.new) log.old log.new rates.old rates.new }
+pub fn bring<B: Board>(head: &mut Head<B>, steps: &mut [Step], records: &mut Records)
+    ensures ran { Ran (length steps.old) steps.old steps.new (state_of B.means head.old) (state_of B.means head.new) records.old.log records.new.log records.old.rates records.new.rates }
     ensures promised { Promise steps.new (state_of B.means head.old) (state_of B.means head.new) }
-    ensures logged { LogPromise steps.new (state_of B.means head.old) log.old log.new }
-    ensures rates { RatesPromise steps.new (state_of B.means head.old) rates.old rates.new }
+    ensures logged { LogPromise steps.new (state_of B.means head.old) records.old.log records.new.log }
+    ensures rates { RatesPromise steps.new (state_of B.means head.old) records.old.rates records.new.rates }
 {
-    for i in 0..steps.len() {
-        let shown = bring_one(head, steps[i].event, log, rates);
-        steps[i].shown = shown;
+    for step in steps.iter_mut() {
+        step.shown = bring_one(head, step.event, records);
     }
 }
 
@@ -37,15 +29,14 @@ pub fn operate<B: Board>(
     board: B,
     stored: [u8; 25],
     steps: &mut [Step],
-    log: &mut Ring<Entry>,
-    rates: &mut Ring<u16>,
+    records: &mut Records,
 ) -> Head<B>
-    ensures ran { Ran (length steps.old) steps.old steps.new (powered_on stored) (state_of B.means result) (restored_log 25 stored (emptied log.old)) log.new (emptied rates.old) rates.new }
+    ensures ran { Ran (length steps.old) steps.old steps.new (powered_on stored) (state_of B.means result) (restored_log 25 stored (emptied records.old.log)) records.new.log (emptied records.old.rates) records.new.rates }
     ensures promised { Stands (continued (begins stored ∷ []) (length steps.new) steps.new) (state_of B.means result) }
-    ensures logged { LogHeld (continued (begins stored ∷ []) (length steps.new) steps.new) log.new }
-    ensures rates { RatesHeld (continued (begins stored ∷ []) (length steps.new) steps.new) rates.new }
+    ensures logged { LogHeld (continued (begins stored ∷ []) (length steps.new) steps.new) records.new.log }
+    ensures rates { RatesHeld (continued (begins stored ∷ []) (length steps.new) steps.new) records.new.rates }
 {
-    let mut head = Head::power_on(board, stored, log, rates);
-    bring(&mut head, steps, log, rates);
+    let mut head = Head::power_on(board, stored, records);
+    bring(&mut head, steps, records);
     head
 }

@@ -7,9 +7,8 @@ ghost use Rattle.interlock.specs.Events.{event_of, unseen, not_due, lines_read, 
 ghost use Rattle.interlock.specs.Runs.{fault_of, next, shown_of, log_after, rates_after};
 
 use board::{Board, LineState};
-use codes::{Entry, Report};
-use head::{Due, Fault, Head, Mark, Mode, Sample};
-use ring::Ring;
+use codes::Report;
+use head::{Due, Fault, Head, Mark, Mode, Records, Sample};
 
 /// What may reach a head: a frame is what the primary and the redundant link hold.
 #[derive(Clone, Copy)]
@@ -66,15 +65,11 @@ impl<'a> Step<'a> {
 fn fault_of(answer: Result<(), Fault>) -> Option<Report>
     ensures { result ≡ fault_of answer }
 {
-    match answer {
-        Ok(()) => None,
-        Err(fault) => Some(fault.report()),
-    }
+    answer.err().map(Report::from)
 }
 
 // Whether a line is on, by the board's own answer.
 fn line_on<B: Board>(board: &B, which: u8) -> bool
-    requires { which < 6 }
     ensures { result ≡ is_on (slice_index_or (B.means board.now).lines which Off) }
 {
     board.line(which).unwrap_or(LineState::Off).is_on()
@@ -83,14 +78,7 @@ fn line_on<B: Board>(board: &B, which: u8) -> bool
 fn lines<B: Board>(board: &B) -> [bool; 6]
     ensures { result ≡ lines_read (B.means board.now) }
 {
-    [
-        line_on(board, 0),
-        line_on(board, 1),
-        line_on(board, 2),
-        line_on(board, 3),
-        line_on(board, 4),
-        line_on(board, 5),
-    ]
+    [0, 1, 2, 3, 4, 5].map(|which| line_on(board, which))
 }
 
 // How head and board read, beside an answer.
@@ -120,32 +108,27 @@ pub fn readings<B: Board>(head: &Head<B>) -> Shown
 }
 
 // Brings one event to a head.
-pub(super) fn bring_one<B: Board>(
-    head: &mut Head<B>,
-    event: Event,
-    log: &mut Ring<Entry>,
-    rates: &mut Ring<u16>,
-) -> Shown
+pub(super) fn bring_one<B: Board>(head: &mut Head<B>, event: Event, records: &mut Records) -> Shown
     ensures shown { result ≡ shown_of (state_of B.means head.old) (event_of event.entry) }
     ensures became { state_of B.means head.new ≡ next (state_of B.means head.old) (event_of event.entry) }
-    ensures noted { log.new ≡ log_after (state_of B.means head.old) (event_of event.entry) log.old }
-    ensures rated { rates.new ≡ rates_after (state_of B.means head.old) (event_of event.entry) rates.old }
+    ensures noted { records.new.log ≡ log_after (state_of B.means head.old) (event_of event.entry) records.old.log }
+    ensures rated { records.new.rates ≡ rates_after (state_of B.means head.old) (event_of event.entry) records.old.rates }
 {
     match event {
         Event::Tick => {
-            let due = head.tick(log);
+            let due = head.tick(&mut records.log);
             read(head, None, due)
         }
         Event::Frame(primary, redundant) => {
-            let fault = fault_of(head.frame(primary, redundant, log));
+            let fault = fault_of(head.frame(primary, redundant, &mut records.log));
             read(head, fault, NOT_DUE)
         }
         Event::Sample(sample) => {
-            head.sample(sample, log);
+            head.sample(sample, &mut records.log);
             read(head, None, NOT_DUE)
         }
         Event::Second(mark) => {
-            let fault = fault_of(head.second(mark, log, rates));
+            let fault = fault_of(head.second(mark, records));
             read(head, fault, NOT_DUE)
         }
     }

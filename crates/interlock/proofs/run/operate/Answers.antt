@@ -15,10 +15,10 @@ returns g c =
     let on = c.power_on-head.ensures in
     let first = begins c.args.stored ∷ [] in
     let led = subst (Follows first) (sym on.became) (begun c.args.stored) in
-    let bare : RatesHeld first (emptied c.args.rates.now) = none c.args.rates.now.room in
+    let bare : RatesHeld first (emptied c.args.records.now.rates) = none c.args.records.now.rates.room in
     record {
       ran = ran_from _ _ _ _ _ _ _ _ _ _ _ _ on.became on.noted on.rates c.bring.ensures.ran;
       promised = c.bring.ensures.promised first led;
-      logged = c.bring.ensures.logged first led (subst (LogHeld first) (sym on.noted) (log_begins c.args.stored c.args.log.now));
+      logged = c.bring.ensures.logged first led (subst (LogHeld first) (sym on.noted) (log_begins c.args.stored c.args.records.now.log));
       rates = c.bring.ensures.rates first led (subst (RatesHeld first) (sym on.rates) bare);
     }
