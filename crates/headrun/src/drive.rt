@@ -6,18 +6,16 @@ ghost use Rattle.headrun.specs.Lines.{Brought, event_in, times_in, printed, prin
 ghost use Rattle.script.specs.Events.{InRange};
 
 use board::{Board, Crossed, PortBoard};
-use codes::Entry;
-use head::{Head, defaults};
+use head::{Head, Records, defaults};
 use interlock::{Event, Shown, Step, bring, readings};
-use ring::Ring;
 use script::{EventLine, Kind, Outcome};
 
 /// The board that is driven: the crossing adapter on a port board.
 pub(super) type Driven = Crossed<PortBoard>;
 
 // A head that is powered on from the default parameters.
-pub(super) fn power_on(log: &mut Ring<Entry>, rates: &mut Ring<u16>) -> Head<Driven> {
-    Head::power_on(Crossed::new(PortBoard::new([0; 4])), defaults(), log, rates)
+pub(super) fn power_on(records: &mut Records) -> Head<Driven> {
+    Head::power_on(Crossed::new(PortBoard::new([0; 4])), defaults(), records)
 }
 
 // What is printed of an event.
@@ -50,16 +48,11 @@ pub(super) fn power_on_outcome<B: Board>(head: &Head<B>) -> Outcome
 }
 
 // Brings one event, and gives what came of it.
-fn bring_one<B: Board>(
-    head: &mut Head<B>,
-    event: Event,
-    log: &mut Ring<Entry>,
-    rates: &mut Ring<u16>,
-) -> Shown
-    ensures { Brought 1 (event_of event.entry) (state_of B.means head.old) (state_of B.means head.new) log.old log.new rates.old rates.new result }
+fn bring_one<B: Board>(head: &mut Head<B>, event: Event, records: &mut Records) -> Shown
+    ensures { Brought 1 (event_of event.entry) (state_of B.means head.old) (state_of B.means head.new) records.old.log records.new.log records.old.rates records.new.rates result }
 {
     let mut steps = [Step::new(event)];
-    bring(head, &mut steps, log, rates);
+    bring(head, &mut steps, records);
     steps[0].shown
 }
 
@@ -68,37 +61,30 @@ fn bring_times<B: Board>(
     head: &mut Head<B>,
     event: Event,
     times: u16,
-    log: &mut Ring<Entry>,
-    rates: &mut Ring<u16>,
+    records: &mut Records,
 ) -> Shown
     requires { 0 < times }
-    ensures { Brought times (event_of event.entry) (state_of B.means head.old) (state_of B.means head.new) log.old log.new rates.old rates.new result }
+    ensures { Brought times (event_of event.entry) (state_of B.means head.old) (state_of B.means head.new) records.old.log records.new.log records.old.rates records.new.rates result }
 {
     for _n in 1..times {
-        let _ = bring_one(head, event, log, rates);
+        let _ = bring_one(head, event, records);
     }
-    bring_one(head, event, log, rates)
+    bring_one(head, event, records)
 }
 
 // Brings what a line says, and gives what came of it.
 pub(super) fn bring_line<B: Board>(
     head: &mut Head<B>,
     line: &EventLine,
-    log: &mut Ring<Entry>,
-    rates: &mut Ring<u16>,
+    records: &mut Records,
 ) -> Shown
     requires { InRange line.now }
-    ensures { Brought (times_in line.now) (event_in line.now) (state_of B.means head.old) (state_of B.means head.new) log.old log.new rates.old rates.new result }
+    ensures { Brought (times_in line.now) (event_in line.now) (state_of B.means head.old) (state_of B.means head.new) records.old.log records.new.log records.old.rates records.new.rates result }
 {
     match line {
-        EventLine::Frame(octets) => bring_one(
-            head,
-            Event::Frame(octets.as_slice(), &[]),
-            log,
-            rates,
-        ),
-        EventLine::Ticks(ticks) => bring_times(head, Event::Tick, *ticks, log, rates),
-        EventLine::Sample(sample) => bring_one(head, Event::Sample(*sample), log, rates),
-        EventLine::Second(mark) => bring_one(head, Event::Second(*mark), log, rates),
+        EventLine::Frame(octets) => bring_one(head, Event::Frame(octets.as_slice(), &[]), records),
+        EventLine::Ticks(ticks) => bring_times(head, Event::Tick, *ticks, records),
+        EventLine::Sample(sample) => bring_one(head, Event::Sample(*sample), records),
+        EventLine::Second(mark) => bring_one(head, Event::Second(*mark), records),
     }
 }

@@ -10,8 +10,8 @@ ghost use Rattle.script.specs.Events.{InRange};
 
 use codes::{Entry, Report};
 use drive::{bring_line, outcome, power_on, power_on_outcome};
+use head::Records;
 use input::next_line;
-use ring::Ring;
 use script::{BadLine, EventLine, count, event_line};
 use std::io;
 use std::io::{BufRead, BufReader, BufWriter, Write};
@@ -52,15 +52,14 @@ fn run<R: BufRead, W: Write>(input: &mut R, output: &mut W) -> io::Result<()> {
     };
     let mut entries = [NO_ENTRY; 8];
     let mut slots = [0; 16];
-    let mut log = Ring::new(&mut entries);
-    let mut rates = Ring::new(&mut slots);
-    let mut head = power_on(&mut log, &mut rates);
+    let mut records = Records::new(&mut entries, &mut slots);
+    let mut head = power_on(&mut records);
     writeln!(output, "{}", power_on_outcome(&head))?;
     for n in 0..u32::from(events) {
         let Some(line) = read_event(input) else {
             return writeln!(output, "{}", BadLine { number: n + 2 });
         };
-        let shown = bring_line(&mut head, &line, &mut log, &mut rates);
+        let shown = bring_line(&mut head, &line, &mut records);
         writeln!(output, "{}", outcome(line.kind(), shown))?;
     }
     Ok(())

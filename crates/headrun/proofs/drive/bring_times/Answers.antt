@@ -10,7 +10,7 @@ loop-n-preserved g c =
     let m = g.B.Board.means in
     let count : suc (c.loop-n._n - 1) ≡ c.loop-n._n + 1 - 1 = omega arith in
     let all = once_more (c.loop-n._n - 1) _ _ _ _ _ _ _ _ _ _ _ c.loop-n.invariant c.bring_one.ensures in
-    let more = subst (λ (n : ℕ). Brought n (event_of c.args.event) (state_of m c.args.head.now) (state_of m c.bring_one.new.head) c.args.log.now c.bring_one.new.log c.args.rates.now c.bring_one.new.rates c.bring_one.result) count all in
+    let more = subst (λ (n : ℕ). Brought n (event_of c.args.event) (state_of m c.args.head.now) (state_of m c.bring_one.new.head) c.args.records.now.log c.bring_one.new.records.log c.args.records.now.rates c.bring_one.new.records.rates c.bring_one.result) count all in
     (more.ends, more.logged, more.rated)
 
 pub returns : goal.returns
@@ -18,4 +18,4 @@ returns g c =
     let m = g.B.Board.means in
     let count : suc (c.loop-n._n - 1) ≡ c.args.times = omega arith in
     let all = once_more (c.loop-n._n - 1) _ _ _ _ _ _ _ _ _ _ _ c.loop-n.invariant c.bring_one-2.ensures in
-    subst (λ (n : ℕ). Brought n (event_of c.args.event) (state_of m c.args.head.now) (state_of m c.bring_one-2.new.head) c.args.log.now c.bring_one-2.new.log c.args.rates.now c.bring_one-2.new.rates c.bring_one-2.result) count all
+    subst (λ (n : ℕ). Brought n (event_of c.args.event) (state_of m c.args.head.now) (state_of m c.bring_one-2.new.head) c.args.records.now.log c.bring_one-2.new.records.log c.args.records.now.rates c.bring_one-2.new.records.rates c.bring_one-2.result) count all

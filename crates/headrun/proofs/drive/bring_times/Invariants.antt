@@ -11,5 +11,5 @@ invariant-loop-n g l =
     let s = state_of m l.initial.head in
     let e = event_of l.event in
     (state_of m l.head ≡ after_times (l._n - 1) e s)
-    × (l.log ≡ log_times (l._n - 1) e s l.initial.log)
-    × (l.rates ≡ rates_times (l._n - 1) e s l.initial.rates)
+    × (l.records.log ≡ log_times (l._n - 1) e s l.initial.records.log)
+    × (l.records.rates ≡ rates_times (l._n - 1) e s l.initial.records.rates)
