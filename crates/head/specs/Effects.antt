@@ -7,8 +7,7 @@ use Rattle.head.specs.declared.Mode.{Mode}
 use Rattle.head.specs.declared.Mode.TheVariants.{Safe, Checkout}
 use Rattle.head.specs.declared.Order.{Order}
 use Rattle.head.specs.declared.Order.TheVariants.{SetParameter, OpenDoor, SetSupply, FireRelease}
-use Rattle.head.specs.declared.Waiting.{Waiting}
-use Rattle.head.specs.declared.Drive.{Drive}
+use Rattle.head.specs.Countdown.{Waiting, Drive}
 use Rattle.head.specs.declared.request.Request.{Request}
 use Rattle.head.specs.declared.request.Request.TheVariants.{Nothing, Safe as AskSafe, Checkout as AskCheckout, Confirm, CloseDoor, SuppliesOff, Heater, Critical}
 use Rattle.head.specs.declared.safe.Turn.{Turn}
@@ -16,7 +15,7 @@ use Rattle.head.specs.declared.safe.Turn.TheVariants.{GoSafe, GoCheckout, Trip}
 
 -- a drive on a line: the line goes on, its ticks are latched
 abbrev pub starts : ℕ → ℕ → State → State
-starts line ticks s = driven (Some (record { line = line; left = ticks })) (with_line s.out line On) s
+starts line ticks s = driven (Some (record { what = line; left = ticks })) (with_line s.out line On) s
 
 -- the door's ticks: 4 times parameter 23 as it stands
 abbrev pub door_ticks : State → ℕ
@@ -36,7 +35,7 @@ darkened s = waiting_is None (outputs_are (without_heaters (without_supplies s.o
 
 abbrev pub ended_from : Option Drive → State → State
 ended_from None s = s
-ended_from (Some d) s = cond (d.line == 5) s (driven None (with_line s.out d.line Off) s)
+ended_from (Some d) s = cond (d.what == 5) s (driven None (with_line s.out d.what Off) s)
 
 -- a drive on lines 0 to 4 ends
 abbrev pub ended : State → State
@@ -80,7 +79,7 @@ acts (FireRelease l n) s = starts l n s
 
 abbrev pub acts_on : Option Waiting → State → State
 acts_on None s = s
-acts_on (Some w) s = acts w.order s
+acts_on (Some w) s = acts w.what s
 
 -- what an accepted request does, where this waited and was taken out
 abbrev pub done : Option Waiting → Request → State → State
@@ -91,4 +90,4 @@ done w (Confirm a b) s = acts_on w s
 done w CloseDoor s = starts 5 (door_ticks s) s
 done w SuppliesOff s = outputs_are (without_supplies s.out) s
 done w (Heater i v) s = outputs_are (with_heater s.out i (v == 1)) s
-done w (Critical o) s = waiting_is (Some (record { order = o; left = 2000 })) s
+done w (Critical o) s = waiting_is (Some (record { what = o; left = 2000 })) s

@@ -13,8 +13,7 @@ use Rattle.head.specs.Verdicts.{Answer, judged}
 use Rattle.head.specs.State.{State, st, waiting_is, meters_are}
 use Rattle.head.specs.Effects.{turned, done}
 use Rattle.head.specs.declared.Mode.TheVariants.{Safe}
-use Rattle.head.specs.declared.Waiting.{Waiting}
-use Rattle.head.specs.declared.Drive.{Drive}
+use Rattle.head.specs.Countdown.{Drive, lessened}
 use Rattle.head.specs.declared.Meters.{Meters}
 use Rattle.head.specs.declared.Core.{Core}
 use Rattle.head.specs.declared.checks.Check.{Check}
@@ -68,24 +67,14 @@ framed p r s = cond (both_empty p r) s (heard (reads p r) s)
 abbrev pub next_tick : Meters → Meters
 next_tick me = record { time = me.time; tick = (me.tick + 1) % 200; timer = me.timer; counts = me.counts; last = me.last }
 
--- the waiting command has one tick less, and is lost with its last
-abbrev pub less_waiting : Option Waiting → Option Waiting
-less_waiting None = None
-less_waiting (Some w) = cond (nat_lt 1 w.left) (Some (record { order = w.order; left = w.left - 1 })) None
-
--- the drive has one tick less, and ends with its last
-abbrev pub less_drive : Option Drive → Option Drive
-less_drive None = None
-less_drive (Some d) = cond (nat_lt 1 d.left) (Some (record { line = d.line; left = d.left - 1 })) None
-
 -- the line of a drive that ends goes off
 abbrev pub less_out : Option Drive → Outputs → Outputs
 less_out None o = o
-less_out (Some d) o = cond (nat_lt 1 d.left) o (with_line o d.line Off)
+less_out (Some d) o = cond (nat_lt 1 d.left) o (with_line o d.what Off)
 
--- the state after a tick
+-- the state after a tick: what waits and what is driven have one tick less
 abbrev pub ticked : State → State
-ticked s = st s.core.mode (less_waiting s.core.waiting) (less_drive s.core.drive) s.core.parameters (next_tick s.core.meters) (less_out s.core.drive s.out)
+ticked s = st s.core.mode (lessened s.core.waiting) (lessened s.core.drive) s.core.parameters (next_tick s.core.meters) (less_out s.core.drive s.out)
 
 -- a sample is due at the multiples of 20
 unfoldable pub sample_due : ℕ → Bool

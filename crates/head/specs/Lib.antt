@@ -4,6 +4,7 @@ pub mod Faults
 pub mod Rolls
 pub mod Requests
 pub mod Verdicts
+pub mod Countdown
 pub mod State
 pub mod Effects
 pub mod Events

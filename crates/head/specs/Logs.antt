@@ -13,7 +13,7 @@ use Rattle.head.specs.Verdicts.{Answer, judged}
 use Rattle.head.specs.State.{State}
 use Rattle.head.specs.Effects.{is_entry}
 use Rattle.head.specs.Events.{both_empty, sample_trip, not_overridden, too_large, clocked, rate_then, mark_trip}
-use Rattle.head.specs.declared.Waiting.{Waiting}
+use Rattle.head.specs.Countdown.{Waiting}
 use Rattle.head.specs.declared.Core.{Core}
 use Rattle.head.specs.declared.checks.Check.{Check}
 use Rattle.head.specs.declared.checks.Sample.{Sample}
@@ -75,7 +75,7 @@ unsaid (Err RawCount) q = false
 
 abbrev pub loss_log : ℕ → Option Waiting → Bool → Log → Log
 loss_log time None quiet l = l
-loss_log time (Some w) quiet l = cond quiet l (noted time (Lost (order_op w.order)) l)
+loss_log time (Some w) quiet l = cond quiet l (noted time (Lost (order_op w.what)) l)
 
 abbrev pub own_log : ℕ → Answer → Log → Log
 own_log time (Ok unit) l = l
@@ -95,7 +95,7 @@ frame_log p r c l = cond (both_empty p r) l (heard_log (reads p r) c (aside_log 
 
 abbrev pub late_log : ℕ → Option Waiting → Log → Log
 late_log time None l = l
-late_log time (Some w) l = cond (nat_lt 1 w.left) l (noted time (Late (order_op w.order)) l)
+late_log time (Some w) l = cond (nat_lt 1 w.left) l (noted time (Late (order_op w.what)) l)
 
 abbrev pub tick_log : Core → Log → Log
 tick_log c l = late_log c.meters.time c.waiting l

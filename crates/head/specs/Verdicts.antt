@@ -7,8 +7,7 @@ use Rattle.head.specs.declared.Mode.{Mode}
 use Rattle.head.specs.declared.Mode.TheVariants.{Safe, Checkout}
 use Rattle.head.specs.declared.Order.{Order}
 use Rattle.head.specs.declared.Order.TheVariants.{SetParameter, OpenDoor, SetSupply, FireRelease}
-use Rattle.head.specs.declared.Waiting.{Waiting}
-use Rattle.head.specs.declared.Drive.{Drive}
+use Rattle.head.specs.Countdown.{Waiting, Drive}
 use Rattle.head.specs.declared.Core.{Core}
 use Rattle.head.specs.declared.request.Request.{Request}
 use Rattle.head.specs.declared.request.Request.TheVariants.{Nothing, Safe as GoSafe, Checkout as GoCheckout, Confirm, CloseDoor, SuppliesOff, Heater, Critical}
@@ -124,7 +123,7 @@ names o a b = a == order_op o && b == 0xFFFF - a
 -- a confirm, where this waits
 abbrev pub confirmed : Option Waiting → Core → ℕ → ℕ → Answer
 confirmed None c a b = Err NothingWaits
-confirmed (Some w) c a b = refuse (not (names w.order a b)) WrongConfirm (again (allowed c (Critical w.order)))
+confirmed (Some w) c a b = refuse (not (names w.what a b)) WrongConfirm (again (allowed c (Critical w.what)))
 
 -- what a request is answered
 abbrev pub judged : Core → Request → Answer

@@ -101,10 +101,10 @@ impl Core {
     fn confirms(&self, waiting: Waiting, opcode: u16, complement: u16) -> Result<(), Fault>
         ensures { result ≡ confirmed (Some waiting) self.now opcode complement }
     {
-        if opcode != waiting.order.opcode() || complement != !opcode {
+        if opcode != waiting.what.opcode() || complement != !opcode {
             return Err(Fault::WrongConfirm);
         }
-        self.allows(Request::Critical(waiting.order))
+        self.allows(Request::Critical(waiting.what))
             .map_err(|_| Fault::ConfirmFailed)
     }
 

@@ -45,7 +45,7 @@ impl Core {
                 note(
                     log,
                     self.meters.time,
-                    Note::Lost(waiting.order.opcode()).into(),
+                    Note::Lost(waiting.what.opcode()).into(),
                 );
             }
         }
@@ -97,7 +97,7 @@ impl<B: Board> Head<B> {
             }
             Request::Confirm(_, _) => {
                 if let Some(waiting) = taken {
-                    self.act(waiting.order);
+                    self.act(waiting.what);
                 }
             }
             Request::CloseDoor => {
@@ -112,7 +112,7 @@ impl<B: Board> Head<B> {
                 let _ = self.board.set_heater(heater, value == 1);
             }
             Request::Critical(order) => self.core.waiting = Some(Waiting {
-                order,
+                what: order,
                 left: PATIENCE,
             }),
         }

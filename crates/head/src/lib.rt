@@ -39,19 +39,18 @@ pub enum Order {
     FireRelease(u8, u8),
 }
 
-/// A critical command that waits, and the ticks until it is lost.
+/// What lasts for some ticks more.
 #[derive(Clone, Copy)]
-pub struct Waiting {
-    order: Order,
+pub struct Timed<T> {
+    what: T,
     left: u16,
 }
 
+/// A critical command that waits, and the ticks until it is lost.
+pub type Waiting = Timed<Order>;
+
 /// A line that is driven, and the ticks until it goes off.
-#[derive(Clone, Copy)]
-pub struct Drive {
-    line: u8,
-    left: u16,
-}
+pub type Drive = Timed<u8>;
 
 /// What the head counts: seconds, ticks of the second, seconds of safety, failures of each check; and the raw count
 /// of the latest second mark.

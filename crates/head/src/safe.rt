@@ -53,7 +53,10 @@ impl<B: Board> Head<B> {
         ensures { state_of B.means self.new ≡ starts line ticks (state_of B.means self.old) }
     {
         let _ = self.board.set_line(line, LineState::On);
-        self.core.drive = Some(Drive { line, left: ticks });
+        self.core.drive = Some(Drive {
+            what: line,
+            left: ticks,
+        });
     }
 
     // Supplies and heaters off, and what waits is dropped.
@@ -72,8 +75,8 @@ impl<B: Board> Head<B> {
         ensures { state_of B.means self.new ≡ ended (state_of B.means self.old) }
     {
         if let Some(drive) = self.core.drive {
-            if drive.line != CLOSING {
-                let _ = self.board.set_line(drive.line, LineState::Off);
+            if drive.what != CLOSING {
+                let _ = self.board.set_line(drive.what, LineState::Off);
                 self.core.drive = None;
             }
         }

@@ -1,11 +1,12 @@
 //! The tick: five milliseconds pass.
 ghost use Rattle.std.specs.Prelude.{◌≡◌, ◌+◌, ◌%◌};
+ghost use Rattle.head.specs.Countdown.{less};
 ghost use Rattle.head.specs.Events.{ticked, sample_due, due_at};
 ghost use Rattle.head.specs.Logs.{tick_log};
 ghost use Rattle.head.specs.State.{state_of};
 
 use super::records::note;
-use super::{Drive, Head, Note, Waiting};
+use super::{Head, Note, Timed};
 use board::{Board, LineState};
 use codes::Entry;
 use ring::Ring;
@@ -32,6 +33,21 @@ fn sample_due(tick: u8) -> bool
     tick % 20 == 0
 }
 
+impl<T: Copy> Timed<T> {
+    // One tick less, or none with the last.
+    fn after_tick(self) -> Option<Timed<T>>
+        ensures { result ≡ less self }
+    {
+        if self.left <= 1 {
+            return None;
+        }
+        Some(Timed {
+            left: self.left - 1,
+            ..self
+        })
+    }
+}
+
 impl<B: Board> Head<B> {
     /// One tick more: what waits and what is driven come nearer to their end, and what is due is answered.
     pub fn tick(&mut self, log: &mut Ring<Entry>) -> Due
@@ -41,29 +57,16 @@ impl<B: Board> Head<B> {
     {
         self.core.meters.tick = following(self.core.meters.tick);
         if let Some(waiting) = self.core.waiting {
-            if waiting.left <= 1 {
-                self.core.waiting = None;
-                note(
-                    log,
-                    self.core.meters.time,
-                    Note::Late(waiting.order.opcode()).into(),
-                );
-            } else {
-                self.core.waiting = Some(Waiting {
-                    left: waiting.left - 1,
-                    ..waiting
-                });
+            self.core.waiting = waiting.after_tick();
+            if self.core.waiting.is_none() {
+                let late = Note::Late(waiting.what.opcode());
+                note(log, self.core.meters.time, late.into());
             }
         }
         if let Some(drive) = self.core.drive {
-            if drive.left <= 1 {
-                let _ = self.board.set_line(drive.line, LineState::Off);
-                self.core.drive = None;
-            } else {
-                self.core.drive = Some(Drive {
-                    left: drive.left - 1,
-                    ..drive
-                });
+            self.core.drive = drive.after_tick();
+            if self.core.drive.is_none() {
+                let _ = self.board.set_line(drive.what, LineState::Off);
             }
         }
         Due {

@@ -5,10 +5,10 @@ use Rattle.board.specs.Lines.{is_on}
 use Rattle.board.specs.Meaning.{Outputs, Whole, with_supply, with_heater, with_line}
 use Rattle.board.specs.declared.line_state.LineState.{LineState}
 use Rattle.board.specs.declared.line_state.LineState.TheVariants.{Off, On}
-use Rattle.head.specs.Events.{less_drive, less_out}
+use Rattle.head.specs.Events.{less_out}
 use Rattle.head.specs.declared.Mode.{Mode}
 use Rattle.head.specs.declared.Mode.TheVariants.{Safe, Checkout}
-use Rattle.head.specs.declared.Drive.{Drive}
+use Rattle.head.specs.Countdown.{Drive, lessened}
 use Rattle.interlock.proofs.Parts.{less_by}
 
 pub at_set : {A : Type 0} (ls : List A) (l : ℕ) (b : A) (k : ℕ) (x : A) → k < length ls → get_or (set ls l b) k x ≡ cond (eqb k l) b (get_or ls k x)
@@ -21,7 +21,7 @@ at_set ls l b k x lt = go (eqb k l) refl
 -- which line a drive has on
 abbrev pub lit : Option Drive → ℕ → Bool
 lit None k = false
-lit (Some d) k = eqb k d.line
+lit (Some d) k = eqb k d.what
 
 abbrev pub line_on_lem : Outputs → ℕ → Bool
 line_on_lem o k = is_on (get_or o.lines k Off)
@@ -31,7 +31,7 @@ LinesAre dr o = (k : ℕ) → k < 6 → line_on_lem o k ≡ lit dr k
 
 abbrev pub OnlyClosing : Option Drive → Type 0
 OnlyClosing None = Unit {0}
-OnlyClosing (Some d) = d.line ≡ 5
+OnlyClosing (Some d) = d.what ≡ 5
 
 abbrev pub Unlit : Outputs → Type 0
 Unlit o = (i : ℕ) → i < 2 → (get_or o.supplies i 0 ≡ 0) × (get_or o.heaters i false ≡ false)
@@ -48,11 +48,11 @@ set_off : (b : Bool) (s : LineState) → is_on s ≡ b → is_on (cond b Off s) 
 set_off true s e = refl
 set_off false s e = e
 
-pub lines_on : (o : Outputs) (l n : ℕ) → Whole o → LinesAre None o → LinesAre (Some (record { line = l; left = n })) (with_line o l On)
+pub lines_on : (o : Outputs) (l n : ℕ) → Whole o → LinesAre None o → LinesAre (Some (record { what = l; left = n })) (with_line o l On)
 lines_on o l n w e k lt = ap is_on (at_set o.lines l On k Off (omega (arith, w.lines))) ∙ set_on (eqb k l) (get_or o.lines k Off) (e k lt)
 
-pub lines_off : (o : Outputs) (d : Drive) → Whole o → LinesAre (Some d) o → LinesAre None (with_line o d.line Off)
-lines_off o d w e k lt = ap is_on (at_set o.lines d.line Off k Off (omega (arith, w.lines))) ∙ set_off (eqb k d.line) (get_or o.lines k Off) (e k lt)
+pub lines_off : (o : Outputs) (d : Drive) → Whole o → LinesAre (Some d) o → LinesAre None (with_line o d.what Off)
+lines_off o d w e k lt = ap is_on (at_set o.lines d.what Off k Off (omega (arith, w.lines))) ∙ set_off (eqb k d.what) (get_or o.lines k Off) (e k lt)
 
 pub whole_line : (o : Outputs) (l : ℕ) (b : LineState) → Whole o → Whole (with_line o l b)
 whole_line o l b w = record { supplies = w.supplies; heaters = w.heaters; lines = length-set o.lines l b ∙ w.lines }
@@ -79,21 +79,21 @@ pub less_none : (dr : Option Drive) → Long dr → dr ≡ less_by 0 dr
 less_none None k = refl
 less_none (Some d) k =
     let m : d.left ≡ d.left - 0 = omega arith in
-    ap (λ x. Some (record { line = d.line; left = x })) m ∙ ap (λ t. cond t (Some (record { line = d.line; left = d.left - 0 })) None) (sym (lt-ltb 0 d.left k))
+    ap (λ x. Some (record { what = d.what; left = x })) m ∙ ap (λ t. cond t (Some (record { what = d.what; left = d.left - 0 })) None) (sym (lt-ltb 0 d.left k))
 
 pub tick_whole : (dr : Option Drive) (o : Outputs) → Whole o → Whole (less_out dr o)
 tick_whole None o w = w
 tick_whole (Some d) o w = go (ltb 1 d.left)
   where
-    go : (t : Bool) → Whole (cond t o (with_line o d.line Off))
+    go : (t : Bool) → Whole (cond t o (with_line o d.what Off))
     go true = w
-    go false = whole_line o d.line Off w
+    go false = whole_line o d.what Off w
 
-pub tick_lines : (dr : Option Drive) (o : Outputs) → Whole o → LinesAre dr o → LinesAre (less_drive dr) (less_out dr o)
+pub tick_lines : (dr : Option Drive) (o : Outputs) → Whole o → LinesAre dr o → LinesAre (lessened dr) (less_out dr o)
 tick_lines None o w e = e
 tick_lines (Some d) o w e = go (ltb 1 d.left)
   where
-    go : (t : Bool) → LinesAre (cond t (Some (record { line = d.line; left = d.left - 1 })) None) (cond t o (with_line o d.line Off))
+    go : (t : Bool) → LinesAre (cond t (Some (record { what = d.what; left = d.left - 1 })) None) (cond t o (with_line o d.what Off))
     go true = e
     go false = lines_off o d w e
 
@@ -101,6 +101,6 @@ pub tick_supplies : (dr : Option Drive) (o : Outputs) → ((less_out dr o).suppl
 tick_supplies None o = (refl, refl)
 tick_supplies (Some d) o = go (ltb 1 d.left)
   where
-    go : (t : Bool) → ((cond t o (with_line o d.line Off)).supplies ≡ o.supplies) × ((cond t o (with_line o d.line Off)).heaters ≡ o.heaters)
+    go : (t : Bool) → ((cond t o (with_line o d.what Off)).supplies ≡ o.supplies) × ((cond t o (with_line o d.what Off)).heaters ≡ o.heaters)
     go true = (refl, refl)
     go false = (refl, refl)

@@ -15,8 +15,7 @@ use Rattle.head.specs.declared.Mode.{Mode}
 use Rattle.head.specs.declared.Mode.TheVariants.{Safe, Checkout}
 use Rattle.head.specs.declared.Order.{Order}
 use Rattle.head.specs.declared.Order.TheVariants.{SetParameter, OpenDoor, SetSupply, FireRelease}
-use Rattle.head.specs.declared.Waiting.{Waiting}
-use Rattle.head.specs.declared.Drive.{Drive}
+use Rattle.head.specs.Countdown.{Waiting, Drive}
 use Rattle.head.specs.declared.Meters.{Meters}
 use Rattle.head.specs.declared.Core.{Core}
 use Rattle.head.specs.declared.fault.Fault.TheVariants.{NotInSafe, OutOfRange, TimerRuns, DriveRuns, WrongConfirm, ConfirmFailed}
@@ -110,12 +109,12 @@ may (FireRelease l n) s e =
     let a = allowed_ok s.core (Critical (FireRelease l n)) e in
     (out_of_safe s.core.mode a.mode_fits, undriven s.core.drive a.drive_fits, leb-true _ _ a.second_fits_lem)
 
-pub confirm_ok : (w : Waiting) (s : State) (a b : ℕ) → confirmed (Some w) s.core a b ≡ Ok tt → (a ≡ order_op w.order) × (b ≡ 0xFFFF - a) × May w.order s × (first_fits (Critical w.order) ≡ true)
+pub confirm_ok : (w : Waiting) (s : State) (a b : ℕ) → confirmed (Some w) s.core a b ≡ Ok tt → (a ≡ order_op w.what) × (b ≡ 0xFFFF - a) × May w.what s × (first_fits (Critical w.what) ≡ true)
 confirm_ok w s a b e =
-    let x = passed (not (names w.order a b)) WrongConfirm (again (allowed s.core (Critical w.order))) tt e in
-    let y = and_parts (eqb a (order_op w.order)) (eqb b (0xFFFF - a)) (not-false _ x.0) in
+    let x = passed (not (names w.what a b)) WrongConfirm (again (allowed s.core (Critical w.what))) tt e in
+    let y = and_parts (eqb a (order_op w.what)) (eqb b (0xFFFF - a)) (not-false _ x.0) in
     let good = again_ok _ x.1 in
-    (eqb-true _ _ y.0, eqb-true _ _ y.1, may w.order s good, (allowed_ok s.core (Critical w.order) good).first_fits_lem)
+    (eqb-true _ _ y.0, eqb-true _ _ y.1, may w.what s good, (allowed_ok s.core (Critical w.what) good).first_fits_lem)
 
 -- ---- what came, by a number: what leaves no mark has one above 5
 

@@ -6,20 +6,20 @@ use Rattle.board.specs.declared.line_state.LineState.TheVariants.{Off, On}
 use Rattle.head.specs.Parameters.{range_at}
 use Rattle.head.specs.State.{State, st, mode_is, waiting_is}
 use Rattle.head.specs.Effects.{starts, door_ticks, shut_from, secured, acts}
-use Rattle.head.specs.Events.{taken, ticked, less_drive, less_waiting, less_out}
+use Rattle.head.specs.Events.{taken, ticked, less_out}
 use Rattle.head.specs.declared.Mode.{Mode}
 use Rattle.head.specs.declared.Mode.TheVariants.{Safe, Checkout}
 use Rattle.head.specs.declared.Order.{Order}
 use Rattle.head.specs.declared.Order.TheVariants.{SetParameter, OpenDoor, SetSupply, FireRelease}
-use Rattle.head.specs.declared.Waiting.{Waiting}
-use Rattle.head.specs.declared.Drive.{Drive}
+use Rattle.head.specs.Countdown.{Waiting, Drive, lessened}
+use Rattle.head.specs.declared.Timed.{Timed}
 use Rattle.head.specs.declared.Meters.{Meters}
 use Rattle.interlock.specs.Events.{supplies_read, heaters_read, lines_read}
 use Rattle.interlock.specs.History.{powered, Did, Past, weight, sampling, Accepted, IsFrame, Confirmed, Sets, Leaves, EntersSafe, DoorTime, Starts, fires, opens, closes, shuts, Runs, last_shown, line_reads}
 use Rattle.interlock.specs.declared.step.Shown.{Shown}
 use Rattle.interlock.proofs.Agos.{ago_now}
 use Rattle.interlock.proofs.Orders.{Taken, ConfirmedOrder, not_critical, one_command}
-use Rattle.interlock.proofs.Parts.{ModeIs, WaitIs, SupplyIs, HeaterIs, ParamIs, Driven, DriveIs, less_by, wait_by, mode_kept, mode_safe, supply_kept, supply_cleared, supply_set, heater_kept, heater_cleared, heater_set, param_kept, param_set, drive_less, drive_starts, drive_ends, drive_closing, wait_less, none_waits, none_after, given_one}
+use Rattle.interlock.proofs.Parts.{ModeIs, WaitIs, SupplyIs, HeaterIs, ParamIs, Driven, DriveIs, less_by, mode_kept, mode_safe, supply_kept, supply_cleared, supply_set, heater_kept, heater_cleared, heater_set, param_kept, param_set, drive_less, drive_starts, drive_ends, drive_closing, wait_less, none_waits, none_after, given_one}
 use Rattle.interlock.proofs.Boards.{at_set, line_on_lem, LinesAre, OnlyClosing, Unlit, SafeIs, lines_on, lines_off, whole_line, both_off, Long, less_none, tick_lines, tick_supplies}
 
 -- how head and board read in a state
@@ -246,18 +246,14 @@ module _ (d : Did) (h : Past) where
   less_safe Safe o p None es eh k = (λ i lt. (ap (λ l. get_or l i 0) es ∙ (k.0 i lt).0, ap (λ l. get_or l i false) eh ∙ (k.0 i lt).1), tt)
   less_safe Safe o p (Some r) es eh k = (λ i lt. (ap (λ l. get_or l i 0) es ∙ (k.0 i lt).0, ap (λ l. get_or l i false) eh ∙ (k.0 i lt).1), go (ltb 1 r.left))
     where
-      go : (b : Bool) → OnlyClosing (cond b (Some (record { line = r.line; left = r.left - 1 })) None)
+      go : (b : Bool) → OnlyClosing (cond b (Some (record { what = r.what; left = r.left - 1 })) None)
       go true = k.1
       go false = tt
   less_safe Checkout o p dr es eh k = tt
 
-  less_drive_lem : (dr : Option Drive) → less_drive dr ≡ less_by 1 dr
-  less_drive_lem None = refl
-  less_drive_lem (Some r) = refl
-
-  less_wait : (w : Option Waiting) → less_waiting w ≡ wait_by 1 w
-  less_wait None = refl
-  less_wait (Some w) = refl
+  less_one : {T : Type 0} (x : Option (Timed T)) → lessened x ≡ less_by 1 x
+  less_one None = refl
+  less_one (Some r) = refl
 
   now_passes : (s : State) → Next passes s
   unfolding Next
@@ -267,15 +263,15 @@ module _ (d : Did) (h : Past) where
       let no-e : EntersSafe (d ∷ h) → ⊥ = λ e. omega (arith, t.entry e) in
       record {
         mode_is = mode_stands passes s t k (λ e. omega arith) (λ e. omega arith);
-        wait_is = subst (λ w. WaitIs w (d ∷ h)) (sym (less_wait s.core.waiting)) (wait_less d h 1 s.core.waiting t.is no-e t.weighs k.wait_is);
+        wait_is = subst (λ w. WaitIs w (d ∷ h)) (sym (less_one s.core.waiting)) (wait_less d h 1 s.core.waiting t.is no-e t.weighs k.wait_is);
         supplies_are = subst (λ l. (i : ℕ) → i < 2 → SupplyIs i (get_or l i 0) (d ∷ h)) (sym same.0) (supplies_stand passes s t k (λ e. omega arith) (λ e. omega arith) (λ e. omega arith));
         heaters_are = subst (λ l. (i : ℕ) → i < 2 → HeaterIs i (get_or l i false) (d ∷ h)) (sym same.1) (heaters_stand passes s t k (λ e. omega arith) (λ e. omega arith));
         params_are = params_stand passes s t k (λ e. omega arith);
         full = k.full;
         ranged = k.ranged;
-        drive_is = subst (λ r. DriveIs r (d ∷ h)) (sym (less_drive_lem dr)) (drive_less d h 1 dr (no_starts passes t (omega arith)) no-e t.weighs k.drive_is);
+        drive_is = subst (λ r. DriveIs r (d ∷ h)) (sym (less_one dr)) (drive_less d h 1 dr (no_starts passes t (omega arith)) no-e t.weighs k.drive_is);
         lines_are = tick_lines dr s.out whole k.lines_are;
-        safe_is = subst (λ r. SafeIs s.core.mode (less_out dr s.out) r) (sym (less_drive_lem dr)) (less_safe s.core.mode s.out (less_out dr s.out) dr same.0 same.1 k.safe_is);
+        safe_is = subst (λ r. SafeIs s.core.mode (less_out dr s.out) r) (sym (less_one dr)) (less_safe s.core.mode s.out (less_out dr s.out) dr same.0 same.1 k.safe_is);
         reads = read;
       }
 
@@ -357,7 +353,7 @@ module _ (d : Did) (h : Past) where
   -- ---- a drive starts
 
   -- whatever starts a drive, the rest stands
-  now_starts : (x : Deed) (l n : ℕ) (m : Mode) (w : Option Waiting) (ps : List ℕ) (me : Meters) (o : Outputs) → Told x d h → (kind x ≡ 1 → ⊥) → (kind x ≡ 2 → ⊥) → (kind x ≡ 3 → ⊥) → (kind x ≡ 7 → ⊥) → ((i v : ℕ) → Sets i v (d ∷ h) → ⊥) → ((i v : ℕ) → ConfirmedOrder (SetSupply i v) (d ∷ h) → ⊥) → WaitIs None (d ∷ h) → Driven l n (d ∷ h) → SafeIs m o (Some (record { line = l; left = n })) → Whole o → ReadIs d.shown (st m None (Some (record { line = l; left = n })) ps me (with_line o l On)) → Now h (st m w None ps me o) → Now (d ∷ h) (st m None (Some (record { line = l; left = n })) ps me (with_line o l On))
+  now_starts : (x : Deed) (l n : ℕ) (m : Mode) (w : Option Waiting) (ps : List ℕ) (me : Meters) (o : Outputs) → Told x d h → (kind x ≡ 1 → ⊥) → (kind x ≡ 2 → ⊥) → (kind x ≡ 3 → ⊥) → (kind x ≡ 7 → ⊥) → ((i v : ℕ) → Sets i v (d ∷ h) → ⊥) → ((i v : ℕ) → ConfirmedOrder (SetSupply i v) (d ∷ h) → ⊥) → WaitIs None (d ∷ h) → Driven l n (d ∷ h) → SafeIs m o (Some (record { what = l; left = n })) → Whole o → ReadIs d.shown (st m None (Some (record { what = l; left = n })) ps me (with_line o l On)) → Now h (st m w None ps me o) → Now (d ∷ h) (st m None (Some (record { what = l; left = n })) ps me (with_line o l On))
   now_starts x l n m w ps me o t n1 n2 n3 n7 ns nw wait driven safe whole read k = record {
     mode_is = mode_kept d h m (λ a. n3 (t.checked a)) (λ e. n7 (t.entry e)) k.mode_is;
     wait_is = wait;
@@ -372,7 +368,7 @@ module _ (d : Did) (h : Past) where
     reads = read;
   }
     where
-      safe_line : (m : Mode) → SafeIs m o (Some (record { line = l; left = n })) → SafeIs m (with_line o l On) (Some (record { line = l; left = n }))
+      safe_line : (m : Mode) → SafeIs m o (Some (record { what = l; left = n })) → SafeIs m (with_line o l On) (Some (record { what = l; left = n }))
       safe_line Safe k = k
       safe_line Checkout k = tt
 
@@ -392,7 +388,7 @@ module _ (d : Did) (h : Past) where
   now_fire l n m w None ps me o t fit whole read k = now_starts (acting (FireRelease l n)) l n m w ps me o t (λ e. omega arith) (λ e. omega arith) (λ e. omega arith) (λ e. omega arith) (λ i v. ⊎_elim (λ c. let e = only_one (FireRelease l n) t (SetParameter i v) c in let z : ◌≡◌ {A = ℕ} 0 1 = cc in omega arith) (λ p. t.unpowered p.0 p.1)) (λ i v c. let e = only_one (FireRelease l n) t (SetSupply i v) c in let z : ◌≡◌ {A = ℕ} 0 1 = cc in omega arith)
       (used_up (FireRelease l n) t)
       (drive_starts d h l n fit.2 (λ i j r. absurd (k.drive_is i j r)) (fires t.is) one t.weighs)
-      (lit_mode m o (Some (record { line = l; left = n })) fit.0) whole read k
+      (lit_mode m o (Some (record { what = l; left = n })) fit.0) whole read k
     where
       one : (i j : ℕ) → Starts i j (d ∷ h) → (i ≡ l) × (j ≡ n)
       one i j (fires c) = let e = only_one (FireRelease l n) t (FireRelease i j) c in (cc, cc)
@@ -406,7 +402,7 @@ module _ (d : Did) (h : Past) where
   now_open m w None ps me o t fit whole read k = now_starts (acting OpenDoor) 4 (4 * get_or ps 23 0) m w ps me o t (λ e. omega arith) (λ e. omega arith) (λ e. omega arith) (λ e. omega arith) (λ i v. ⊎_elim (λ c. let e = only_one OpenDoor t (SetParameter i v) c in let z : ◌≡◌ {A = ℕ} 0 1 = cc in omega arith) (λ p. t.unpowered p.0 p.1)) (λ i v c. let e = only_one OpenDoor t (SetSupply i v) c in let z : ◌≡◌ {A = ℕ} 0 1 = cc in omega arith)
       (used_up OpenDoor t)
       (drive_starts d h 4 (4 * get_or ps 23 0) (door_long (st m w None ps me o) k) (λ i j r. absurd (k.drive_is i j r)) (opens refl t.is (door_time (st m w None ps me o) k)) one t.weighs)
-      (lit_mode m o (Some (record { line = 4; left = 4 * get_or ps 23 0 })) fit.0) whole read k
+      (lit_mode m o (Some (record { what = 4; left = 4 * get_or ps 23 0 })) fit.0) whole read k
     where
       one : (i j : ℕ) → Starts i j (d ∷ h) → (i ≡ 4) × (j ≡ 4 * get_or ps 23 0)
       one i j (fires c) = let e = only_one OpenDoor t (FireRelease i j) c in let z : ◌≡◌ {A = ℕ} 0 1 = cc in absurd (omega arith)
@@ -414,7 +410,7 @@ module _ (d : Did) (h : Past) where
       one i j (closes e c y) = absurd (omega (arith, t.closed c))
       one i j (shuts e c p r y) = absurd (omega (arith, t.entry c))
 
-  closing_safe : (m : Mode) (o : Outputs) (n : ℕ) → SafeIs m o None → SafeIs m o (Some (record { line = 5; left = n }))
+  closing_safe : (m : Mode) (o : Outputs) (n : ℕ) → SafeIs m o None → SafeIs m o (Some (record { what = 5; left = n }))
   closing_safe Safe o n k = (k.0, refl)
   closing_safe Checkout o n k = tt
 
@@ -473,7 +469,7 @@ module _ (d : Did) (h : Past) where
     one_shut i j (shuts e c q r y) = (e, door_one S j k y, (k.params_are 24 (omega arith) 1).1 q, r)
 
     now_over : p.supplies ≡ (black o).supplies → p.heaters ≡ (black o).heaters → ((l n : ℕ) → Runs l n h → l ≡ 5 → ⊥) → line_reads 5 h ≡ false → LinesAre None p → (b : Bool) → eqb (get_or ps 24 0) 1 ≡ b → ReadIs d.shown (cond b (starts 5 (4 * get_or ps 23 0) (st Safe None None ps me p)) (st Safe None None ps me p)) → Now (d ∷ h) (cond b (starts 5 (4 * get_or ps 23 0) (st Safe None None ps me p)) (st Safe None None ps me p))
-    now_over es eh none dark lines true e read = now_safe (Some (record { line = 5; left = 4 * get_or ps 23 0 })) (with_line p 5 On) es eh
+    now_over es eh none dark lines true e read = now_safe (Some (record { what = 5; left = 4 * get_or ps 23 0 })) (with_line p 5 On) es eh
         (drive_starts d h 5 (4 * get_or ps 23 0) (door_long S k) (λ i j r. (none i j r, t.is)) (shuts refl t.is ((k.params_are 24 (omega arith) 1).0 (eqb-true _ _ e)) dark (door_time S k)) (λ i j s. let q = one_shut i j s in (q.0, q.1)) t.weighs)
         (lines_on p 5 (4 * get_or ps 23 0) whole' lines) refl read
     now_over es eh none dark lines false e read = now_safe None p es eh (drive_ends d h (λ i j r. (none i j r, t.is)) (λ i j s. eqb-false _ _ e (one_shut i j s).2)) lines tt read
@@ -487,21 +483,21 @@ module _ (d : Did) (h : Past) where
   now_enters : (m : Mode) (w : Option Waiting) (dr : Option Drive) (ps : List ℕ) (me : Meters) (o : Outputs) → Next enters (st m w dr ps me o)
   unfolding Next
   now_enters m w None ps me o t fit whole read k = now_over m w None ps me o (black o) t whole (whole_black o whole) k refl refl (λ l n r e. k.drive_is l n r) (read_five _ k.reads ∙ k.lines_are 5 (omega arith)) k.lines_are (eqb (get_or ps 24 0) 1) refl read
-  now_enters m w (Some r) ps me o t fit whole read k = go (eqb r.line 5) refl read
+  now_enters m w (Some r) ps me o t fit whole read k = go (eqb r.what 5) refl read
     where
       p : Outputs
-      p = with_line (black o) r.line Off
+      p = with_line (black o) r.what Off
 
-      go : (b : Bool) → eqb r.line 5 ≡ b → ReadIs d.shown (shut_from (cond b (st Safe None (Some r) ps me (black o)) (st Safe None None ps me (with_line (black o) r.line Off))).core.drive (cond b (st Safe None (Some r) ps me (black o)) (st Safe None None ps me (with_line (black o) r.line Off)))) → Now (d ∷ h) (shut_from (cond b (st Safe None (Some r) ps me (black o)) (st Safe None None ps me (with_line (black o) r.line Off))).core.drive (cond b (st Safe None (Some r) ps me (black o)) (st Safe None None ps me (with_line (black o) r.line Off))))
+      go : (b : Bool) → eqb r.what 5 ≡ b → ReadIs d.shown (shut_from (cond b (st Safe None (Some r) ps me (black o)) (st Safe None None ps me (with_line (black o) r.what Off))).core.drive (cond b (st Safe None (Some r) ps me (black o)) (st Safe None None ps me (with_line (black o) r.what Off)))) → Now (d ∷ h) (shut_from (cond b (st Safe None (Some r) ps me (black o)) (st Safe None None ps me (with_line (black o) r.what Off))).core.drive (cond b (st Safe None (Some r) ps me (black o)) (st Safe None None ps me (with_line (black o) r.what Off))))
       go true e read =
-          let five : r.line ≡ 5 = eqb-true _ _ e in
-          let lit5 : line_reads 5 h ≡ true = read_five _ k.reads ∙ k.lines_are 5 (omega arith) ∙ eq-eqb 5 r.line (sym five) in
+          let five : r.what ≡ 5 = eqb-true _ _ e in
+          let lit5 : line_reads 5 h ≡ true = read_five _ k.reads ∙ k.lines_are 5 (omega arith) ∙ eq-eqb 5 r.what (sym five) in
           now_safe m w (Some r) ps me o (black o) t whole (whole_black o whole) k (Some r) (black o) refl refl
-          (drive_closing d h r.line r.left five (λ i j s. both_ways (line_reads 5 h) (one_shut m w (Some r) ps me o (black o) t whole (whole_black o whole) k i j s).3 lit5) t.weighs k.drive_is)
+          (drive_closing d h r.what r.left five (λ i j s. both_ways (line_reads 5 h) (one_shut m w (Some r) ps me o (black o) t whole (whole_black o whole) k i j s).3 lit5) t.weighs k.drive_is)
           k.lines_are five read
       go false e read =
-          let off5 : line_reads 5 h ≡ false = read_five _ k.reads ∙ k.lines_are 5 (omega arith) ∙ ne_eqb 5 r.line (λ q. eqb-false _ _ e (sym q)) in
-          now_over m w (Some r) ps me o (with_line (black o) r.line Off) t whole (whole_line (black o) r.line Off (whole_black o whole)) k refl refl (λ l n s q. eqb-false _ _ e (sym (k.drive_is.only l n s).0 ∙ q)) off5 (lines_off (black o) r (whole_black o whole) k.lines_are) (eqb (get_or ps 24 0) 1) refl read
+          let off5 : line_reads 5 h ≡ false = read_five _ k.reads ∙ k.lines_are 5 (omega arith) ∙ ne_eqb 5 r.what (λ q. eqb-false _ _ e (sym q)) in
+          now_over m w (Some r) ps me o (with_line (black o) r.what Off) t whole (whole_line (black o) r.what Off (whole_black o whole)) k refl refl (λ l n s q. eqb-false _ _ e (sym (k.drive_is.only l n s).0 ∙ q)) off5 (lines_off (black o) r (whole_black o whole) k.lines_are) (eqb (get_or ps 24 0) 1) refl read
 
   pub now_deed : (x : Deed) (s : State) → Told x d h → Fits x s → Whole s.out → ReadIs d.shown (apply x s) → Now h s → Now (d ∷ h) (apply x s)
   unfolding Next

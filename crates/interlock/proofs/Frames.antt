@@ -18,8 +18,7 @@ use Rattle.head.specs.Events.{taken, both_empty, heard_answer, frame_answer, ans
 use Rattle.head.specs.declared.Mode.{Mode}
 use Rattle.head.specs.declared.Mode.TheVariants.{Safe, Checkout}
 use Rattle.head.specs.declared.Order.{Order}
-use Rattle.head.specs.declared.Waiting.{Waiting}
-use Rattle.head.specs.declared.Drive.{Drive}
+use Rattle.head.specs.Countdown.{Waiting, Drive}
 use Rattle.head.specs.declared.Meters.{Meters}
 use Rattle.head.specs.declared.fault.Fault.{Fault}
 use Rattle.head.specs.declared.fault.Fault.TheVariants.{BothEmpty, Unread, NothingWaits}
@@ -65,7 +64,7 @@ module _ (p r : List ℕ) (x : Shown) (h : Past) where
     confirm_comes a b m None dr ps me o q e good k = absurd (err_ok NothingWaits tt good)
     confirm_comes a b m (Some w) dr ps me o q e good k =
         let s = confirm_ok w (st m (Some w) dr ps me o) a b good in
-        record { deed = acting w.order; same = refl; told_so = told D h (acting w.order) 3 (tagged _ q) ((t.words, brings 0x6604 t.words e), unwaited w.order w.left h k.1) (λ e. refl) (λ e. absurd (omega arith)) (λ e. absurd (omega arith)) (λ e. absurd (omega arith)) (λ e. absurd (omega arith)) (λ e i. absurd (omega arith)) (omega arith) (omega arith) refl refl; fits = s.2 }
+        record { deed = acting w.what; same = refl; told_so = told D h (acting w.what) 3 (tagged _ q) ((t.words, brings 0x6604 t.words e), unwaited w.what w.left h k.1) (λ e. refl) (λ e. absurd (omega arith)) (λ e. absurd (omega arith)) (λ e. absurd (omega arith)) (λ e. absurd (omega arith)) (λ e i. absurd (omega arith)) (omega arith) (omega arith) refl refl; fits = s.2 }
 
     undriven : (dr : Option Drive) → busy dr ≡ false → dr ≡ None
     undriven None e = refl
@@ -84,7 +83,7 @@ module _ (p r : List ℕ) (x : Shown) (h : Past) where
     frame_done SuppliesOff s q e good k = record { deed = offs; same = refl; told_so = told D h offs 5 (tagged _ q) (brings 0x660e [] e) (λ e. absurd (omega arith)) (λ e. absurd (omega arith)) (λ e. refl) (λ e. absurd (omega arith)) (λ e. absurd (omega arith)) (λ e i. absurd (omega arith)) (omega arith) (omega arith) refl refl; fits = tt }
     frame_done (Heater i v) s q e good k = record { deed = heats i v; same = refl; told_so = told D h (heats i v) 9 (tagged _ q) (brings 0x6611 (i ∷ v ∷ []) e) (λ e. absurd (omega arith)) (λ e. refl) (λ e. absurd (omega arith)) (λ e. absurd (omega arith)) (λ e. absurd (omega arith)) (λ e i. absurd (omega arith)) (omega arith) (omega arith) refl refl; fits = out_of_safe s.core.mode (allowed_ok s.core (Heater i v) good).mode_fits }
     frame_done (Critical o) s q e good k =
-        let w : Option Waiting = Some (record { order = o; left = 2000 }) in
+        let w : Option Waiting = Some (record { what = o; left = 2000 }) in
         record { deed = rests w; same = refl; told_so = told D h (rests w) 10 (tagged _ q) (omega arith, ago_now D h (brings (order_op o) (order_words o) e, refl)) (λ e. absurd (omega arith)) (λ e. absurd (omega arith)) (λ e. absurd (omega arith)) (λ e. absurd (omega arith)) (λ e. absurd (omega arith)) (λ e i. absurd (omega arith)) (omega arith) (omega arith) refl refl; fits = tt }
 
   -- ---- any frame
@@ -143,11 +142,11 @@ right_done : (words : List ℕ) (d : Did) (h : Past) (m : Mode) (w : Option Wait
 right_done words d h m None dr ps me o acc good k = absurd (err_ok NothingWaits tt good)
 right_done words d h m (Some w) dr ps me o acc good k =
     let s = confirm_ok w (st m (Some w) dr ps me o) (word words 0) (word words 2) good in (
-      w.order,
+      w.what,
       record {
         words = words;
         accepted = acc;
-        critical = critical w.order;
+        critical = critical w.what;
         names = s.0;
         complements = s.1 ∙ ap (λ (n : ℕ). 0xFFFF - n) s.0;
         in_time = ago_map (λ t p v. (v.0, omega (arith, v.1, k.0))) (λ p v. v) k.1;

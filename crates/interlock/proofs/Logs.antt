@@ -27,7 +27,7 @@ use Rattle.head.specs.Logs.{unsaid, aside_log, loss_log, own_log, heard_log, lat
 use Rattle.head.specs.declared.Mode.{Mode}
 use Rattle.head.specs.declared.Mode.TheVariants.{Safe, Checkout}
 use Rattle.head.specs.declared.Order.{Order}
-use Rattle.head.specs.declared.Waiting.{Waiting}
+use Rattle.head.specs.Countdown.{Waiting}
 use Rattle.head.specs.declared.Core.{Core}
 use Rattle.head.specs.declared.checks.Check.{Check}
 use Rattle.head.specs.declared.checks.Sample.{Sample}
@@ -114,11 +114,11 @@ aside_report (Some f) = Some (read_report f)
 
 abbrev loss_report : Option Waiting → Bool → Option Report
 loss_report None quiet = None
-loss_report (Some w) quiet = cond quiet None (Some (report 2 0x26 6 (order_op w.order)))
+loss_report (Some w) quiet = cond quiet None (Some (report 2 0x26 6 (order_op w.what)))
 
 abbrev late_report : Option Waiting → Option Report
 late_report None = None
-late_report (Some w) = cond (ltb 1 w.left) None (Some (report 2 0x28 6 (order_op w.order)))
+late_report (Some w) = cond (ltb 1 w.left) None (Some (report 2 0x28 6 (order_op w.what)))
 
 abbrev trip_report : Option Check → Bool → Option Report
 trip_report None b = None
@@ -166,15 +166,15 @@ module _ (d : Did) (h : Past) where
       no_f : IsFrame (d ∷ h) → ⊥
       no_f f = let e = f.2 in let z : ◌≡◌ {A = ℕ} 0 1 = cc in omega arith
 
-      go : (b : Bool) → ltb 1 w.left ≡ b → Only (Late (d ∷ h)) (cond b None (Some (report 2 0x28 6 (order_op w.order))))
+      go : (b : Bool) → ltb 1 w.left ≡ b → Only (Late (d ∷ h)) (cond b None (Some (report 2 0x28 6 (order_op w.what))))
       go true e = only_none (λ r x.
           let a = lately r came x in
           omega (arith, ltb-true 1 w.left e, k.1.held.1, a.2.held.1, ap (λ b. ticks (take b h)) (one_wait h _ _ k.1 a.2)))
-      go false e = only_some (report 2 0x28 6 (order_op w.order))
-          (order_op w.order, order_words w.order, critical w.order, came, ago_later d h (no_f, no-e) (ago_map (λ t p y. (y.0, omega (arith, y.1, ltb-false 1 w.left e, k.0, ap weight came))) (λ p y. y) k.1), refl)
+      go false e = only_some (report 2 0x28 6 (order_op w.what))
+          (order_op w.what, order_words w.what, critical w.what, came, ago_later d h (no_f, no-e) (ago_map (λ t p y. (y.0, omega (arith, y.1, ltb-false 1 w.left e, k.0, ap weight came))) (λ p y. y) k.1), refl)
           (λ r x.
           let a = lately r came x in
-          let same = given_one w.order a.0 h (unwaited w.order w.left h k.1) (ago_map (λ t p y. y.0) (λ p y. y.0) a.2) in
+          let same = given_one w.what a.0 h (unwaited w.what w.left h k.1) (ago_map (λ t p y. y.0) (λ p y. y.0) a.2) in
           ap (λ (o : Order). report 2 0x28 6 (order_op o)) same ∙ sym a.1)
 
   -- ---- a frame
@@ -196,11 +196,11 @@ module _ (d : Did) (h : Past) where
   loss_is : (w : Option Waiting) (said : Bool) → IsFrame (d ∷ h) → ((said ≡ true) ↔ Tells (d ∷ h)) → WaitIs w h → Only (Loses (d ∷ h)) (loss_report w said)
   loss_is None said fr tells k = only_none (λ r x. let a = ordered x.0 x.1 h x.2 x.3 in k a.0 a.2)
   loss_is (Some w) true fr tells k = only_none (λ r x. x.5 (tells.0 refl))
-  loss_is (Some w) false fr tells k = only_some (report 2 0x26 6 (order_op w.order))
-      (order_op w.order, order_words w.order, critical w.order, ago_map (λ t p y. (y.0, omega (arith, y.1, k.0))) (λ p y. y) k.1, fr, λ t. both_ways false refl (tells.1 t), refl)
+  loss_is (Some w) false fr tells k = only_some (report 2 0x26 6 (order_op w.what))
+      (order_op w.what, order_words w.what, critical w.what, ago_map (λ t p y. (y.0, omega (arith, y.1, k.0))) (λ p y. y) k.1, fr, λ t. both_ways false refl (tells.1 t), refl)
       (λ r x.
       let a = ordered x.0 x.1 h x.2 x.3 in
-      let same = given_one w.order a.0 h (unwaited w.order w.left h k.1) (ago_map (λ t p y. y.0) (λ p y. y.0) a.2) in
+      let same = given_one w.what a.0 h (unwaited w.what w.left h k.1) (ago_map (λ t p y. y.0) (λ p y. y.0) a.2) in
       ap (λ (o : Order). report 2 0x26 6 (order_op o)) same ∙ ap (λ (n : ℕ). report 2 0x26 6 n) (sym a.1) ∙ sym x.6)
 
 -- what a frame tells of itself
@@ -469,7 +469,7 @@ late_noted : (t : ℕ) (w : Option Waiting) (l : Log) → late_log t w l ≡ not
 late_noted t None l = refl
 late_noted t (Some w) l = go (ltb 1 w.left)
   where
-    go : (b : Bool) → cond b l (added (entry t (report 2 0x28 6 (order_op w.order))) l) ≡ noting t (cond b None (Some (report 2 0x28 6 (order_op w.order)))) l
+    go : (b : Bool) → cond b l (added (entry t (report 2 0x28 6 (order_op w.what))) l) ≡ noting t (cond b None (Some (report 2 0x28 6 (order_op w.what)))) l
     go true = refl
     go false = refl
 

@@ -10,8 +10,7 @@ use Rattle.head.specs.Effects.{turned}
 use Rattle.head.specs.Events.{tripped, not_overridden, too_large, second_answer, clocked, rate_then, mark_trips, mark_trip, marked, seconded}
 use Rattle.head.specs.declared.Mode.{Mode}
 use Rattle.head.specs.declared.Mode.TheVariants.{Safe, Checkout}
-use Rattle.head.specs.declared.Waiting.{Waiting}
-use Rattle.head.specs.declared.Drive.{Drive}
+use Rattle.head.specs.Countdown.{Waiting, Drive}
 use Rattle.head.specs.declared.Meters.{Meters}
 use Rattle.head.specs.declared.checks.Check.{Check}
 use Rattle.head.specs.declared.checks.Mark.{Mark}

@@ -5,8 +5,8 @@ use Rattle.head.specs.declared.Mode.{Mode}
 use Rattle.head.specs.declared.Mode.TheVariants.{Safe, Checkout}
 use Rattle.head.specs.declared.Order.{Order}
 use Rattle.head.specs.declared.Order.TheVariants.{SetSupply}
-use Rattle.head.specs.declared.Waiting.{Waiting}
-use Rattle.head.specs.declared.Drive.{Drive}
+use Rattle.head.specs.Countdown.{Waiting, Drive}
+use Rattle.head.specs.declared.Timed.{Timed}
 use Rattle.head.specs.Requests.{order_op, marked}
 use Rattle.interlock.specs.History.{Did, Past, Ago, weight, ticks, Accepted, IsFrame, Sets, ParameterIs, Leaves, InCheckout, EntersSafe, LeavesWaiting, SwitchedOn, HeatedOn, Starts, Runs}
 use Rattle.interlock.specs.Promises.{Waits as InTime}
@@ -24,7 +24,7 @@ Waits o left h = Ago (λ t q. Taken o q × (left + t ≡ 2000)) LeavesWaiting h
 
 abbrev pub WaitIs : Option Waiting → Past → Type 0
 WaitIs None h = (o : Order) → InTime (order_op o) (order_words o) h → ⊥
-WaitIs (Some w) h = (0 < w.left) × Waits w.order w.left h
+WaitIs (Some w) h = (0 < w.left) × Waits w.what w.left h
 
 abbrev pub SupplyIs : ℕ → ℕ → Past → Type 0
 SupplyIs s x h = (v : ℕ) → 0 < v → (x ≡ v) ↔ SwitchedOn s v h
@@ -46,16 +46,12 @@ pub record Driven (line left : ℕ) (h : Past) : Type 0 where
 
 abbrev pub DriveIs : Option Drive → Past → Type 0
 DriveIs None h = (l n : ℕ) → Runs l n h → ⊥
-DriveIs (Some d) h = Driven d.line d.left h
+DriveIs (Some d) h = Driven d.what d.left h
 
--- a drive after n ticks
-abbrev pub less_by : ℕ → Option Drive → Option Drive
+-- what has ticks left, after n ticks
+abbrev pub less_by : {T : Type 0} → ℕ → Option (Timed T) → Option (Timed T)
 less_by n None = None
-less_by n (Some d) = cond (ltb n d.left) (Some (record { line = d.line; left = d.left - n })) None
-
-abbrev pub wait_by : ℕ → Option Waiting → Option Waiting
-wait_by n None = None
-wait_by n (Some w) = cond (ltb n w.left) (Some (record { order = w.order; left = w.left - n })) None
+less_by n (Some x) = cond (ltb n x.left) (Some (record { what = x.what; left = x.left - n })) None
 
 -- what waits was accepted at one position
 pub one_wait : (h : Past) (o p : Order) {X Y : ℕ → Type 0} (a : Ago (λ t q. Taken o q × X t) LeavesWaiting h) (b : Ago (λ t q. Taken p q × Y t) LeavesWaiting h) → a.back ≡ b.back
@@ -142,7 +138,7 @@ module _ (d : Did) (h : Past) where
   drive_less n None no-s no-e is k = λ l m r. ⊎_elim (λ now. no-s l m now.0.0) (λ la. k l m (ran_on l m la.was)) (ago_cases d h r)
   drive_less n (Some dr) no-s no-e is k = go (ltb n dr.left) refl
     where
-      go : (b : Bool) → ltb n dr.left ≡ b → DriveIs (cond b (Some (record { line = dr.line; left = dr.left - n })) None) (d ∷ h)
+      go : (b : Bool) → ltb n dr.left ≡ b → DriveIs (cond b (Some (record { what = dr.what; left = dr.left - n })) None) (d ∷ h)
       go true e =
           let more : n < dr.left = ltb-true _ _ e in
           record {
@@ -184,7 +180,7 @@ module _ (d : Did) (h : Past) where
   -- ---- the order that waits
 
   -- n ticks on
-  pub wait_less : (n : ℕ) (w : Option Waiting) → (IsFrame (d ∷ h) → ⊥) → (EntersSafe (d ∷ h) → ⊥) → weight d.came ≡ n → WaitIs w h → WaitIs (wait_by n w) (d ∷ h)
+  pub wait_less : (n : ℕ) (w : Option Waiting) → (IsFrame (d ∷ h) → ⊥) → (EntersSafe (d ∷ h) → ⊥) → weight d.came ≡ n → WaitIs w h → WaitIs (less_by n w) (d ∷ h)
   wait_less n None no_f no-e is k = λ o a.
       ⊎_elim
       (λ now. no_f (taken_frame d h _ _ now.0.0))
@@ -192,7 +188,7 @@ module _ (d : Did) (h : Past) where
       (ago_cases d h a)
   wait_less n (Some w) no_f no-e is k = go (ltb n w.left) refl
     where
-      go : (b : Bool) → ltb n w.left ≡ b → WaitIs (cond b (Some (record { order = w.order; left = w.left - n })) None) (d ∷ h)
+      go : (b : Bool) → ltb n w.left ≡ b → WaitIs (cond b (Some (record { what = w.what; left = w.left - n })) None) (d ∷ h)
       go true e =
           let more : n < w.left = ltb-true _ _ e in
           (omega arith, ago_later d h (no_f, no-e) (ago_map (λ t p x. (x.0, omega (arith, x.1))) (λ p q. q) k.1))

@@ -10,8 +10,7 @@ use Rattle.head.specs.Effects.{turned}
 use Rattle.head.specs.Events.{set_point, count_after, counts_after, count_trips, counts_are, tripped, not_overridden, sample_trip, sampled, too_large, clocked, mark_trip}
 use Rattle.head.specs.declared.Mode.{Mode}
 use Rattle.head.specs.declared.Mode.TheVariants.{Safe, Checkout}
-use Rattle.head.specs.declared.Waiting.{Waiting}
-use Rattle.head.specs.declared.Drive.{Drive}
+use Rattle.head.specs.Countdown.{Waiting, Drive}
 use Rattle.head.specs.declared.Meters.{Meters}
 use Rattle.head.specs.declared.checks.Check.{Check}
 use Rattle.head.specs.declared.checks.Check.TheVariants.{Plate, Strip, Anode, Rate, Temperature}

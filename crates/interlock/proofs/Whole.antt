@@ -18,7 +18,7 @@ use Rattle.head.specs.declared.Mode.{Mode}
 use Rattle.head.specs.declared.Mode.TheVariants.{Safe, Checkout}
 use Rattle.head.specs.declared.Order.{Order}
 use Rattle.head.specs.declared.Order.TheVariants.{SetParameter, OpenDoor, SetSupply, FireRelease}
-use Rattle.head.specs.declared.Drive.{Drive}
+use Rattle.head.specs.Countdown.{Drive}
 use Rattle.head.specs.declared.Meters.{Meters}
 use Rattle.head.specs.declared.checks.Check.{Check}
 use Rattle.head.specs.declared.checks.Mark.{Mark}
@@ -55,9 +55,9 @@ line_on : (dr : Option Drive) (h : Past) (l : ℕ) (b : Bool) → b ≡ lit dr l
 line_on None h l b e k = (λ t. absurd (both_ways b e t), λ r. absurd (k l r.0 r.1))
 line_on (Some d) h l b e k = (
   λ t.
-      let same : l ≡ d.line = eqb-true _ _ (sym e ∙ t) in
+      let same : l ≡ d.what = eqb-true _ _ (sym e ∙ t) in
       (k.period, subst (λ x. Runs x k.period h) (sym same) (ago_map (λ t p x. (x.0, omega (arith, x.1, k.more))) (λ p q. q) k.run)),
-  λ r. e ∙ eq-eqb l d.line (k.only l r.0 r.1).0,
+  λ r. e ∙ eq-eqb l d.what (k.only l r.0 r.1).0,
 )
 
 one_drive : (dr : Option Drive) (h : Past) → DriveIs dr h → (l m j k : ℕ) (r : Runs l m h) (q : Runs j k h) → (l ≡ j) × (m ≡ k) × (r.back ≡ q.back)
@@ -73,7 +73,7 @@ safe_unlit Checkout h o dr is s no-c = absurd (no-c is)
 
 safe_lines : (m : Mode) (h : Past) (o : Outputs) (dr : Option Drive) (l : ℕ) → l < 5 → ModeIs m h → SafeIs m o dr → (InCheckout h → ⊥) → lit dr l ≡ false
 safe_lines Safe h o None l lt is s no-c = refl
-safe_lines Safe h o (Some d) l lt is s no-c = ne_eqb l d.line (λ e. omega (arith, e, s.1))
+safe_lines Safe h o (Some d) l lt is s no-c = ne_eqb l d.what (λ e. omega (arith, e, s.1))
 safe_lines Checkout h o dr l lt is s no-c = absurd (no-c is)
 
 mode_of : (m : Mode) (h : Past) → ModeIs m h → (m ≡ Checkout) ↔ InCheckout h
@@ -380,7 +380,7 @@ shut_aside a (Some d) s k = k
 
 ended_aside : (a : Meters) (dr : Option Drive) (s : State) → Aside a s → Aside a (ended_from dr s)
 ended_aside a None s k = k
-ended_aside a (Some d) s k = either_aside (eqb d.line 5) a s _ k (record { counts_same = k.counts_same; last_same = k.last_same; time_same = k.time_same; timer_same = k.timer_same; whole_still = whole_line s.out d.line Off k.whole_still })
+ended_aside a (Some d) s k = either_aside (eqb d.what 5) a s _ k (record { counts_same = k.counts_same; last_same = k.last_same; time_same = k.time_same; timer_same = k.timer_same; whole_still = whole_line s.out d.what Off k.whole_still })
 
 apply_aside : (x : Deed) (s : State) → Whole s.out → Aside s.core.meters (apply x s)
 apply_aside (rests r) s w = aside _ w
@@ -489,9 +489,9 @@ same_tick enters s n = shut_tick (ended (darkened (mode_is Safe s))).core.drive 
 
     ended_tick : (dr : Option Drive) (z : State) → (ended_from dr z).core.meters.tick ≡ z.core.meters.tick
     ended_tick None z = refl
-    ended_tick (Some d) z = go (eqb d.line 5)
+    ended_tick (Some d) z = go (eqb d.what 5)
       where
-        go : (b : Bool) → (cond b z (driven None (with_line z.out d.line Off) z)).core.meters.tick ≡ z.core.meters.tick
+        go : (b : Bool) → (cond b z (driven None (with_line z.out d.what Off) z)).core.meters.tick ≡ z.core.meters.tick
         go true = refl
         go false = refl
 
