@@ -4,10 +4,11 @@ use Rattle.codes.specs.declared.Report.{Report}
 use Rattle.head.specs.Faults.{report_of}
 use Rattle.head.specs.Verdicts.{Answer}
 use Rattle.head.specs.State.{State}
-use Rattle.ring.specs.Rolls.{Roll}
+use Rattle.ring.specs.Rolls.{Roll, emptied}
 use Rattle.head.specs.Rolls.{Log}
 use Rattle.head.specs.Events.{frame_answer, framed, ticked, due_at, sampled, second_answer, seconded}
-use Rattle.head.specs.Logs.{frame_log, tick_log, sample_log, second_log, second_rates}
+use Rattle.head.specs.Logs.{restored_log, frame_log, tick_log, sample_log, second_log, second_rates}
+use Rattle.head.specs.declared.records.Records.{Records}
 use Rattle.head.specs.declared.tick.Due.{Due}
 use Rattle.head.specs.declared.Mode.TheVariants.{Safe}
 use Rattle.interlock.specs.Events.{Event, tick, frame, sample, mark, event_of, not_due, reading}
@@ -59,6 +60,14 @@ rates_after s (frame p r) l = l
 rates_after s (sample x) l = l
 rates_after s (mark x) l = second_rates x s.core l
 
+-- log and rates after an event
+abbrev pub records_after : State → Event → Records → Records
+records_after s e r = record { log = log_after s e r.log; rates = rates_after s e r.rates }
+
+-- log and rates after power-on
+abbrev pub records_on : List ℕ → Records → Records
+records_on stored r = record { log = restored_log 25 stored (emptied r.log); rates = emptied r.rates }
+
 -- what stands past the end of a list
 abbrev pub absent : Step
 absent = record { event = Tick; shown = record { fault = None; due = not_due; mode = Safe; parameters = []; supplies = []; heaters = []; lines = [] } }
@@ -70,25 +79,20 @@ step_at steps i = slice_index_or steps i absent
 abbrev pub event_at : List Step → ℕ → Event
 event_at steps i = event_of (step_at steps i).event
 
--- the state, the log and the rates after the first n events
+-- the state and the records after the first n events
 
 abbrev pub state_after : State → ℕ → List Step → State
 state_after s zero steps = s
 state_after s (suc n) steps = next (state_after s n steps) (event_at steps n)
 
-abbrev pub log_after_all : State → ℕ → List Step → Log → Log
-log_after_all s zero steps l = l
-log_after_all s (suc n) steps l = log_after (state_after s n steps) (event_at steps n) (log_after_all s n steps l)
+abbrev pub records_after_all : State → ℕ → List Step → Records → Records
+records_after_all s zero steps r = r
+records_after_all s (suc n) steps r = records_after (state_after s n steps) (event_at steps n) (records_after_all s n steps r)
 
-abbrev pub rates_after_all : State → ℕ → List Step → Roll ℕ → Roll ℕ
-rates_after_all s zero steps l = l
-rates_after_all s (suc n) steps l = rates_after (state_after s n steps) (event_at steps n) (rates_after_all s n steps l)
-
--- n steps were brought by the rules: each shows what the rules answer, and keeps its event; head, board, log and rates end as the rules say
-pub record Ran (n : ℕ) (before after : List Step) (s t : State) (log log' : Log) (rates rates' : Roll ℕ) : Type 0 where
+-- n steps were brought by the rules: each shows what the rules answer, and keeps its event; head, board and records end as the rules say
+pub record Ran (n : ℕ) (before after : List Step) (s t : State) (r r' : Records) : Type 0 where
   pub as_many : length after ≡ length before
   pub events : (i : ℕ) → (step_at after i).event ≡ (step_at before i).event
   pub shows : (i : ℕ) → i < n → (step_at after i).shown ≡ shown_of (state_after s i before) (event_at before i)
   pub ends : t ≡ state_after s n before
-  pub logged : log' ≡ log_after_all s n before log
-  pub rated : rates' ≡ rates_after_all s n before rates
+  pub written : r' ≡ records_after_all s n before r

@@ -2,11 +2,9 @@
 ghost use Rattle.std.specs.Prelude.{[], ◌∷◌, length};
 ghost use Rattle.head.specs.Events.{powered_on};
 ghost use Rattle.head.specs.State.{state_of};
-ghost use Rattle.ring.specs.Rolls.{emptied};
-ghost use Rattle.head.specs.Logs.{restored_log};
 ghost use Rattle.interlock.specs.Logged.{LogHeld, LogPromise};
 ghost use Rattle.interlock.specs.Promises.{Promise, RatesPromise, RatesHeld, Stands, begins, continued};
-ghost use Rattle.interlock.specs.Runs.{Ran};
+ghost use Rattle.interlock.specs.Runs.{Ran, records_on};
 
 use super::step::{Step, bring_one};
 use board::Board;
@@ -14,7 +12,7 @@ use head::{Head, Records};
 
 /// Brings a head that runs already each event in turn, and writes down what came of it.
 pub fn bring<B: Board>(head: &mut Head<B>, steps: &mut [Step], records: &mut Records)
-    ensures ran { Ran (length steps.old) steps.old steps.new (state_of B.means head.old) (state_of B.means head.new) records.old.log records.new.log records.old.rates records.new.rates }
+    ensures ran { Ran (length steps.old) steps.old steps.new (state_of B.means head.old) (state_of B.means head.new) records.old records.new }
     ensures promised { Promise steps.new (state_of B.means head.old) (state_of B.means head.new) }
     ensures logged { LogPromise steps.new (state_of B.means head.old) records.old.log records.new.log }
     ensures rates { RatesPromise steps.new (state_of B.means head.old) records.old.rates records.new.rates }
@@ -31,7 +29,7 @@ pub fn operate<B: Board>(
     steps: &mut [Step],
     records: &mut Records,
 ) -> Head<B>
-    ensures ran { Ran (length steps.old) steps.old steps.new (powered_on stored) (state_of B.means result) (restored_log 25 stored (emptied records.old.log)) records.new.log (emptied records.old.rates) records.new.rates }
+    ensures ran { Ran (length steps.old) steps.old steps.new (powered_on stored) (state_of B.means result) (records_on stored records.old) records.new }
     ensures promised { Stands (continued (begins stored ∷ []) (length steps.new) steps.new) (state_of B.means result) }
     ensures logged { LogHeld (continued (begins stored ∷ []) (length steps.new) steps.new) records.new.log }
     ensures rates { RatesHeld (continued (begins stored ∷ []) (length steps.new) steps.new) records.new.rates }

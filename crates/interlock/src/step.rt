@@ -4,7 +4,7 @@ ghost use Rattle.board.specs.Lines.{is_on};
 ghost use Rattle.board.specs.declared.line_state.LineState.TheVariants.{Off};
 ghost use Rattle.head.specs.State.{state_of};
 ghost use Rattle.interlock.specs.Events.{event_of, unseen, not_due, lines_read, reading};
-ghost use Rattle.interlock.specs.Runs.{fault_of, next, shown_of, log_after, rates_after};
+ghost use Rattle.interlock.specs.Runs.{fault_of, next, shown_of, records_after};
 
 use board::{Board, LineState};
 use codes::Report;
@@ -111,8 +111,7 @@ pub fn readings<B: Board>(head: &Head<B>) -> Shown
 pub(super) fn bring_one<B: Board>(head: &mut Head<B>, event: Event, records: &mut Records) -> Shown
     ensures shown { result ≡ shown_of (state_of B.means head.old) (event_of event.entry) }
     ensures became { state_of B.means head.new ≡ next (state_of B.means head.old) (event_of event.entry) }
-    ensures noted { records.new.log ≡ log_after (state_of B.means head.old) (event_of event.entry) records.old.log }
-    ensures rated { records.new.rates ≡ rates_after (state_of B.means head.old) (event_of event.entry) records.old.rates }
+    ensures written { records.new ≡ records_after (state_of B.means head.old) (event_of event.entry) records.old }
 {
     match event {
         Event::Tick => {

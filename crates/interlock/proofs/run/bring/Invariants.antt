@@ -5,4 +5,4 @@ use Rattle.interlock.proofs.run.bring.Given as goal
 abbrev pub invariant-loop-step : goal.invariant-loop-step
 invariant-loop-step g l =
     let m = g.B.Board.means in
-    Ran l.step-index l.initial.steps l.steps (state_of m l.initial.head) (state_of m l.head) l.initial.records.log l.records.log l.initial.records.rates l.records.rates
+    Ran l.step-index l.initial.steps l.steps (state_of m l.initial.head) (state_of m l.head) l.initial.records l.records

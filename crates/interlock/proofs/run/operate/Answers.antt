@@ -17,7 +17,7 @@ returns g c =
     let led = subst (Follows first) (sym on.became) (begun c.args.stored) in
     let bare : RatesHeld first (emptied c.args.records.now.rates) = none c.args.records.now.rates.room in
     record {
-      ran = ran_from _ _ _ _ _ _ _ _ _ _ _ _ on.became on.noted on.rates c.bring.ensures.ran;
+      ran = ran_from _ _ _ _ _ _ _ _ _ on.became (λ i. record { log = on.noted i; rates = on.rates i }) c.bring.ensures.ran;
       promised = c.bring.ensures.promised first led;
       logged = c.bring.ensures.logged first led (subst (LogHeld first) (sym on.noted) (log_begins c.args.stored c.args.records.now.log));
       rates = c.bring.ensures.rates first led (subst (RatesHeld first) (sym on.rates) bare);
