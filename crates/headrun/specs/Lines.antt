@@ -1,10 +1,9 @@
 -- What a line brings to a head, how often, and what is printed of it.
 use Rattle.std.specs.Prelude.{◌≡◌, ℕ, zero, suc, ◌-◌, [], None}
-use Rattle.ring.specs.Rolls.{Roll}
-use Rattle.head.specs.Rolls.{Log}
+use Rattle.head.specs.declared.records.Records.{Records}
 use Rattle.head.specs.State.{State}
 use Rattle.interlock.specs.Events.{Event, tick, frame, sample, mark, not_due, reading}
-use Rattle.interlock.specs.Runs.{next, shown_of, log_after, rates_after}
+use Rattle.interlock.specs.Runs.{next, shown_of, records_after}
 use Rattle.interlock.specs.declared.step.Shown.{Shown}
 use Rattle.script.specs.Hex.{octets_in}
 use Rattle.script.specs.declared.event.EventLine.{EventLine}
@@ -27,25 +26,20 @@ times_in (Ticks n) = n
 times_in (Sample x) = 1
 times_in (Second x) = 1
 
--- the state, the log and the rates after an event came n times
+-- the state and the records after an event came n times
 
 abbrev pub after_times : ℕ → Event → State → State
 after_times zero e s = s
 after_times (suc n) e s = next (after_times n e s) e
 
-abbrev pub log_times : ℕ → Event → State → Log → Log
-log_times zero e s l = l
-log_times (suc n) e s l = log_after (after_times n e s) e (log_times n e s l)
-
-abbrev pub rates_times : ℕ → Event → State → Roll ℕ → Roll ℕ
-rates_times zero e s r = r
-rates_times (suc n) e s r = rates_after (after_times n e s) e (rates_times n e s r)
+abbrev pub records_times : ℕ → Event → State → Records → Records
+records_times zero e s r = r
+records_times (suc n) e s r = records_after (after_times n e s) e (records_times n e s r)
 
 -- an event was brought n times by the rules, and this is shown of the last
-pub record Brought (n : ℕ) (e : Event) (s t : State) (log log' : Log) (rates rates' : Roll ℕ) (x : Shown) : Type 0 where
+pub record Brought (n : ℕ) (e : Event) (s t : State) (r r' : Records) (x : Shown) : Type 0 where
   pub ends : t ≡ after_times n e s
-  pub logged : log' ≡ log_times n e s log
-  pub rated : rates' ≡ rates_times n e s rates
+  pub written : r' ≡ records_times n e s r
   pub shows : x ≡ shown_of (after_times (n - 1) e s) e
 
 -- what is printed of an event of a kind

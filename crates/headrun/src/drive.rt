@@ -49,7 +49,7 @@ pub(super) fn power_on_outcome<B: Board>(head: &Head<B>) -> Outcome
 
 // Brings one event, and gives what came of it.
 fn bring_one<B: Board>(head: &mut Head<B>, event: Event, records: &mut Records) -> Shown
-    ensures { Brought 1 (event_of event.entry) (state_of B.means head.old) (state_of B.means head.new) records.old.log records.new.log records.old.rates records.new.rates result }
+    ensures { Brought 1 (event_of event.entry) (state_of B.means head.old) (state_of B.means head.new) records.old records.new result }
 {
     let mut steps = [Step::new(event)];
     bring(head, &mut steps, records);
@@ -64,7 +64,7 @@ fn bring_times<B: Board>(
     records: &mut Records,
 ) -> Shown
     requires { 0 < times }
-    ensures { Brought times (event_of event.entry) (state_of B.means head.old) (state_of B.means head.new) records.old.log records.new.log records.old.rates records.new.rates result }
+    ensures { Brought times (event_of event.entry) (state_of B.means head.old) (state_of B.means head.new) records.old records.new result }
 {
     for _n in 1..times {
         let _ = bring_one(head, event, records);
@@ -79,7 +79,7 @@ pub(super) fn bring_line<B: Board>(
     records: &mut Records,
 ) -> Shown
     requires { InRange line.now }
-    ensures { Brought (times_in line.now) (event_in line.now) (state_of B.means head.old) (state_of B.means head.new) records.old.log records.new.log records.old.rates records.new.rates result }
+    ensures { Brought (times_in line.now) (event_in line.now) (state_of B.means head.old) (state_of B.means head.new) records.old records.new result }
 {
     match line {
         EventLine::Frame(octets) => bring_one(head, Event::Frame(octets.as_slice(), &[]), records),

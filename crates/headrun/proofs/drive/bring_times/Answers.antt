@@ -9,13 +9,13 @@ pub loop-n-preserved : goal.loop-n-preserved
 loop-n-preserved g c =
     let m = g.B.Board.means in
     let count : suc (c.loop-n._n - 1) ≡ c.loop-n._n + 1 - 1 = omega arith in
-    let all = once_more (c.loop-n._n - 1) _ _ _ _ _ _ _ _ _ _ _ c.loop-n.invariant c.bring_one.ensures in
-    let more = subst (λ (n : ℕ). Brought n (event_of c.args.event) (state_of m c.args.head.now) (state_of m c.bring_one.new.head) c.args.records.now.log c.bring_one.new.records.log c.args.records.now.rates c.bring_one.new.records.rates c.bring_one.result) count all in
-    (more.ends, more.logged, more.rated)
+    let all = once_more (c.loop-n._n - 1) _ _ _ _ _ _ _ _ c.loop-n.invariant c.bring_one.ensures in
+    let more = subst (λ (n : ℕ). Brought n (event_of c.args.event) (state_of m c.args.head.now) (state_of m c.bring_one.new.head) c.args.records.now c.bring_one.new.records c.bring_one.result) count all in
+    (more.ends, more.written)
 
 pub returns : goal.returns
 returns g c =
     let m = g.B.Board.means in
     let count : suc (c.loop-n._n - 1) ≡ c.args.times = omega arith in
-    let all = once_more (c.loop-n._n - 1) _ _ _ _ _ _ _ _ _ _ _ c.loop-n.invariant c.bring_one-2.ensures in
-    subst (λ (n : ℕ). Brought n (event_of c.args.event) (state_of m c.args.head.now) (state_of m c.bring_one-2.new.head) c.args.records.now.log c.bring_one-2.new.records.log c.args.records.now.rates c.bring_one-2.new.records.rates c.bring_one-2.result) count all
+    let all = once_more (c.loop-n._n - 1) _ _ _ _ _ _ _ _ c.loop-n.invariant c.bring_one-2.ensures in
+    subst (λ (n : ℕ). Brought n (event_of c.args.event) (state_of m c.args.head.now) (state_of m c.bring_one-2.new.head) c.args.records.now c.bring_one-2.new.records c.bring_one-2.result) count all
