@@ -25,14 +25,13 @@ const PATIENCE: u16 = 2000;
 fn goes_unsaid(answer: Result<(), Fault>, request: Request) -> bool
     ensures { result ≡ is_unsaid answer request }
 {
-    matches!(
-        (answer, request),
-        (Ok(()), Request::Confirm(_, _))
-            | (
-                Err(Fault::CriticalWaits(_) | Fault::WrongConfirm | Fault::ConfirmFailed),
-                _
-            )
-    )
+    match answer {
+        Ok(()) => matches!(request, Request::Confirm(_, _)),
+        Err(fault) => matches!(
+            fault,
+            Fault::CriticalWaits(_) | Fault::WrongConfirm | Fault::ConfirmFailed
+        ),
+    }
 }
 
 impl Core {

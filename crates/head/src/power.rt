@@ -52,7 +52,8 @@ impl<B: Board> Head<B> {
     {
         let mut board = board;
         all_off(&mut board);
-        records.clear();
+        records.log.clear();
+        records.rates.clear();
         let parameters = restore_all(stored, &mut records.log);
         let meters = Meters {
             time: START,

@@ -1,8 +1,8 @@
 //! What the head writes down. The log and the rates are rings on the caller's memory; an event that may add to the log
 //! alone is lent the log alone.
-ghost use Rattle.std.specs.Prelude.{◌≡◌, [], length};
+ghost use Rattle.std.specs.Prelude.{◌≡◌, length};
 ghost use Rattle.head.specs.Rolls.{entry};
-ghost use Rattle.ring.specs.Rolls.{added, emptied};
+ghost use Rattle.ring.specs.Rolls.{added, empty_roll};
 
 use codes::{Entry, Report};
 use ring::Ring;
@@ -17,22 +17,13 @@ pub struct Records<'a> {
 impl<'a> Records<'a> {
     /// Records of nothing yet, on memory that is lent for the log and for the rates.
     pub fn new(log: &'a mut [Entry], rates: &'a mut [u16]) -> Self
-        ensures log { result.log ≡ record { room = length log.old; items = [] } }
-        ensures rates { result.rates ≡ record { room = length rates.old; items = [] } }
+        ensures log { result.log ≡ empty_roll (length log.old) }
+        ensures rates { result.rates ≡ empty_roll (length rates.old) }
     {
         Records {
             log: Ring::new(log),
             rates: Ring::new(rates),
         }
-    }
-
-    /// Forgets all that was written down.
-    pub fn clear(&mut self)
-        ensures log { self.new.log ≡ emptied self.old.log }
-        ensures rates { self.new.rates ≡ emptied self.old.rates }
-    {
-        self.log.clear();
-        self.rates.clear();
     }
 }
 

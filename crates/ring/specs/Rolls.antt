@@ -17,6 +17,10 @@ roll slots next count = record { room = length slots; items = take count (back_f
 abbrev pub added : {T : Type 0} → T → Roll T → Roll T
 added x l = record { room = l.room; items = take l.room (x ∷ l.items) }
 
+-- no record, and room for so many
+abbrev pub empty_roll : {T : Type 0} → ℕ → Roll T
+empty_roll room = record { room = room; items = [] }
+
 -- none left, with the same room
 abbrev pub emptied : {T : Type 0} → Roll T → Roll T
-emptied l = record { room = l.room; items = [] }
+emptied l = empty_roll l.room

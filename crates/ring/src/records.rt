@@ -1,14 +1,14 @@
 //! What a ring does: take a record, forget all, say how many it holds, give one by its age.
-ghost use Rattle.std.specs.Prelude.{◌≡◌, [], length};
+ghost use Rattle.std.specs.Prelude.{◌≡◌, length};
 ghost use Rattle.std.specs.List.{slice_get};
-ghost use Rattle.ring.specs.Rolls.{added, emptied};
+ghost use Rattle.ring.specs.Rolls.{empty_roll, added, emptied};
 
 use super::Ring;
 
 impl<'a, T: Copy> Ring<'a, T> {
     /// An empty ring over the slots.
     pub fn new(slots: &'a mut [T]) -> Self
-        ensures { result ≡ record { room = length slots.old; items = [] } }
+        ensures { result ≡ empty_roll (length slots.old) }
     {
         Ring {
             slots,
