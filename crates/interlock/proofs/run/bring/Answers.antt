@@ -4,9 +4,6 @@ use Rattle.interlock.specs.Runs.{Ran}
 use Rattle.interlock.proofs.Runs.{ran_none, ran_more, run_stands, run_rates, run_log}
 use Rattle.interlock.proofs.run.bring.Goals as goal
 
-pub loop-step-init : goal.loop-step-init
-loop-step-init g c = ran_none _ _ _
-
 pub loop-step-preserved : goal.loop-step-preserved
 loop-step-preserved g c =
     let one = c.bring_one-step.ensures in
