@@ -4,6 +4,8 @@ use codes::Report;
 use std::process::Abort;
 use std::test::Fail;
 
+// What is set on a board: a value and no closure, since a list of them stands in a constant and goes to boards of
+// different types.
 #[derive(Clone, Copy)]
 enum Setting {
     Supply(u8, u8),
@@ -54,7 +56,7 @@ fn agree<A: Board, B: Board>(rt: &impl Abort, one: &A, other: &B) -> Result<(), 
         assert_eq!(rt; one.heater(i)?, other.heater(i)?);
     }
     for k in 0..6 {
-        assert_eq!(rt; one.line(k)?.is_on(), other.line(k)?.is_on());
+        assert_eq!(rt; one.line(k)?, other.line(k)?);
     }
     Ok(())
 }
@@ -74,28 +76,22 @@ fn port_and_chain_agree(rt: HostRuntime) -> Result<(), Fail> {
 }
 
 // The board refuses to set what its number does not name.
-fn refuses<B: Board>(rt: &impl Abort, board: &mut B, setting: Setting) -> Result<(), Fail> {
-    match apply(board, setting) {
-        Ok(()) => Err(Fail::new("a setting was taken")),
-        Err(fault) => {
-            assert_eq!(rt; fault.report(), REFUSED);
-            Ok(())
-        },
-    }
+fn refuses<B: Board>(rt: &impl Abort, board: &mut B, setting: Setting) {
+    let refusal = apply(board, setting).err();
+    assert_eq!(rt; refusal.map(|fault| fault.report()), Some(REFUSED));
 }
 
 #[test]
-fn what_names_nothing_is_refused(rt: HostRuntime) -> Result<(), Fail> {
+fn what_names_nothing_is_refused(rt: HostRuntime) {
     let mut port = PortBoard::new([1, 2, 3, 4]);
     let mut chain = ChainBoard::new();
     for setting in NOTHINGS {
-        refuses(&rt, &mut port, setting)?;
-        refuses(&rt, &mut chain, setting)?;
+        refuses(&rt, &mut port, setting);
+        refuses(&rt, &mut chain, setting);
     }
     assert!(rt; port.supply(2).is_err() && port.heater(2).is_err() && port.line(6).is_err());
     assert_eq!(rt; port.bytes(), [1, 2, 3, 4]);
     assert_eq!(rt; chain.word(), 0);
-    Ok(())
 }
 
 #[test]

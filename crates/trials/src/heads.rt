@@ -1,6 +1,7 @@
 //! The head: where a count rate trips, what the log of a small run holds, and memory of length zero.
+use super::shared::{holds, report};
 use board::PortBoard;
-use codes::{Entry, Report};
+use codes::Entry;
 use head::{Head, Mark, Mode, defaults};
 use interlock::{Event, Step, operate};
 use ring::Ring;
@@ -21,12 +22,7 @@ const NOISY: [u8; 8] = [0x11, 0x41, 0xC0, 0x02, 0x00, 0x01, 0x66, 0x04];
 const fn entry(time: u32, layer: u8, code: u8, place: u16, opcode: u16) -> Entry {
     Entry {
         time,
-        report: Report {
-            layer,
-            code,
-            place,
-            opcode,
-        },
+        report: report(layer, code, place, opcode),
     }
 }
 
@@ -60,14 +56,6 @@ fn a_rate_above_the_limit_trips(rt: HostRuntime) -> Result<(), Fail> {
     Ok(())
 }
 
-// The log holds these entries, oldest first, and none beyond.
-fn holds(rt: &impl Abort, log: &Ring<'_, Entry>, oldest_first: &[Entry]) {
-    assert_eq!(rt; log.len(), oldest_first.len());
-    for (age, expected) in oldest_first.iter().rev().enumerate() {
-        assert_eq!(rt; log.get(age), Some(*expected));
-    }
-}
-
 #[test]
 fn the_log_has_each_entry_in_order(rt: HostRuntime) {
     let mut entries = [entry(0, 0, 0, 0, 0); 8];
@@ -89,7 +77,7 @@ fn the_log_has_each_entry_in_order(rt: HostRuntime) {
     let set_aside = entry(1_000_000, 1, 0x10, 1, 0);
     let lost = entry(1_000_000, 2, 0x26, 6, 0x6612);
     let refused = entry(1_000_000, 2, 0x22, 8, 0x6604);
-    holds(&rt, &log, &[set_aside, lost, refused]);
+    holds(&rt, &log, &[refused, lost, set_aside]);
     assert_eq!(rt; steps[1].shown.fault, None);
     assert_eq!(rt; steps[2].shown.fault, Some(refused.report));
     assert_eq!(rt; head.board().bytes(), [0; 4]);

@@ -13,4 +13,6 @@ mod reader;
 #[cfg(test)]
 mod rings;
 #[cfg(test)]
+mod shared;
+#[cfg(test)]
 mod writer;

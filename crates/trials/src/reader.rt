@@ -1,7 +1,8 @@
 //! What the reader takes and refuses.
+use super::shared::report;
 use codes::Report;
 use std::test::Fail;
-use telecommand::{Command, choose, read, set_aside};
+use telecommand::{Command, ReadFault, choose, read, set_aside};
 
 const GOOD: [u8; 8] = [0x11, 0x01, 0xC0, 0x00, 0x00, 0x01, 0x66, 0x01];
 
@@ -9,37 +10,31 @@ const SHORT: [u8; 7] = [0x11, 0x01, 0xC0, 0x00, 0x00, 0x01, 0x66];
 
 const STRANGE: [u8; 8] = [0x01, 0x01, 0xC0, 0x00, 0x00, 0x01, 0x66, 0x01];
 
-// What stands on the primary link, the redundant being empty, and its report: layer, code, place, op-code.
-#[derive(Clone, Copy)]
-struct Refusal(&'static [u8], u8, u8, u16, u16);
-
-const REFUSALS: [Refusal; 12] = [
-    Refusal(&[], 1, 0x20, 4, 0),
-    Refusal(&SHORT, 1, 0x20, 4, 0),
-    // the number in octets 4 and 5 is another, in its low octet or in its high one
-    Refusal(&[0x11, 0x01, 0xC0, 0, 0, 2, 0x66, 0x01], 1, 0x20, 4, 0),
-    Refusal(&[0x11, 0x01, 0xC0, 0, 1, 1, 0x66, 0x01], 1, 0x20, 4, 0),
-    Refusal(&STRANGE, 1, 0x10, 0, 0),
-    Refusal(&[0x11, 0x02, 0x80, 0, 0, 1, 0x66, 0x01], 1, 0x10, 1, 0),
-    Refusal(&[0x11, 0x01, 0x80, 0, 0, 1, 0x66, 0x01], 1, 0x10, 2, 0),
-    Refusal(&[0x11, 0x01, 0x7F, 0, 0, 1, 0x66, 0x01], 1, 0x10, 2, 0),
-    Refusal(&[0x11, 0x01, 0xC0, 0, 0, 1, 0x66, 0x05], 2, 0x21, 6, 0x6605),
-    Refusal(&[0x11, 0x01, 0xC0, 0, 0, 1, 0x66, 0x04], 2, 0x22, 8, 0x6604),
-    Refusal(
-        &[0x11, 0x01, 0xC0, 0, 0, 2, 0x66, 0x12, 2],
-        2,
-        0x22,
-        8,
-        0x6612,
-    ),
-    Refusal(
-        &[0x11, 0x01, 0xC0, 0, 0, 3, 0x66, 0x01, 0, 0],
-        2,
-        0x22,
-        8,
-        0x6601,
-    ),
-];
+// What stands on the primary link, the redundant being empty, and the report of its fault.
+fn refusals() -> [(&'static [u8], Report); 12] {
+    let length = report(1, 0x20, 4, 0);
+    let header = |octet| report(1, 0x10, octet, 0);
+    let unknown = report(2, 0x21, 6, 0x6605);
+    let words = |opcode| report(2, 0x22, 8, opcode);
+    [
+        (&[], length),
+        (&SHORT, length),
+        // the number in octets 4 and 5 is another, in its low octet or in its high one
+        (&[0x11, 0x01, 0xC0, 0, 0, 2, 0x66, 0x01], length),
+        (&[0x11, 0x01, 0xC0, 0, 1, 1, 0x66, 0x01], length),
+        (&STRANGE, header(0)),
+        (&[0x11, 0x02, 0x80, 0, 0, 1, 0x66, 0x01], header(1)),
+        (&[0x11, 0x01, 0x80, 0, 0, 1, 0x66, 0x01], header(2)),
+        (&[0x11, 0x01, 0x7F, 0, 0, 1, 0x66, 0x01], header(2)),
+        (&[0x11, 0x01, 0xC0, 0, 0, 1, 0x66, 0x05], unknown),
+        (&[0x11, 0x01, 0xC0, 0, 0, 1, 0x66, 0x04], words(0x6604)),
+        (&[0x11, 0x01, 0xC0, 0, 0, 2, 0x66, 0x12, 2], words(0x6612)),
+        (
+            &[0x11, 0x01, 0xC0, 0, 0, 3, 0x66, 0x01, 0, 0],
+            words(0x6601),
+        ),
+    ]
+}
 
 #[test]
 fn a_good_frame_is_taken(rt: HostRuntime) -> Result<(), Fail> {
@@ -56,37 +51,26 @@ fn a_good_frame_is_taken(rt: HostRuntime) -> Result<(), Fail> {
 }
 
 #[test]
-fn others_are_refused(rt: HostRuntime) -> Result<(), Fail> {
-    for Refusal(link, layer, code, place, opcode) in REFUSALS {
-        let Err(fault) = read(link, &[]) else {
-            return Err(Fail::new("a frame was taken"));
-        };
-        let report = Report {
-            layer,
-            code,
-            place,
-            opcode,
-        };
-        assert_eq!(rt; fault.report(), report);
+fn others_are_refused(rt: HostRuntime) {
+    for (link, report) in refusals() {
+        let refusal = read(link, &[]).err();
+        assert_eq!(rt; refusal.map(|fault| fault.report()), Some(report));
     }
-    Ok(())
+}
+
+fn code_and_place(fault: ReadFault) -> (u8, u16) {
+    let report = fault.report();
+    (report.code, report.place)
 }
 
 // The code and the place of the choice's fault, or none.
 fn fault_of(primary: &[u8], redundant: &[u8]) -> Option<(u8, u16)> {
-    match choose(primary, redundant) {
-        Ok(_) => None,
-        Err(fault) => {
-            let report = fault.report();
-            Some((report.code, report.place))
-        }
-    }
+    choose(primary, redundant).err().map(code_and_place)
 }
 
 // The code and the place of a primary that was set aside, or none.
 fn aside_of(primary: &[u8], redundant: &[u8]) -> Option<(u8, u16)> {
-    let report = set_aside(primary, redundant)?.report();
-    Some((report.code, report.place))
+    set_aside(primary, redundant).map(code_and_place)
 }
 
 #[test]

@@ -1,16 +1,6 @@
 //! Rings of no slot, of one and of three.
+use super::shared::holds;
 use ring::Ring;
-use std::process::Abort;
-
-// The ring holds these records, newest first, and none beyond.
-fn holds(rt: &impl Abort, ring: &Ring<'_, u16>, newest_first: &[u16]) {
-    assert_eq!(rt; ring.len(), newest_first.len());
-    for (age, record) in newest_first.iter().enumerate() {
-        assert_eq!(rt; ring.get(age), Some(*record));
-    }
-    assert_eq!(rt; ring.get(newest_first.len()), None);
-    assert_eq!(rt; ring.get(usize::MAX), None);
-}
 
 #[test]
 fn no_slot_holds_nothing(rt: HostRuntime) {

@@ -2,24 +2,23 @@
 use std::test::Fail;
 use telecommand::{Command, read, write};
 
-// The code of a refusal, or 0 for a frame that was written.
-fn code(buffer: &mut [u8], from: usize, words: &[u16], count: u16) -> u8 {
-    match write(buffer, from, 0x6612, words, count) {
-        Ok(_) => 0,
-        Err(fault) => fault.report().code,
-    }
+// The code of a refusal, or none for a frame that was written.
+fn code(buffer: &mut [u8], from: usize, words: &[u16], count: u16) -> Option<u8> {
+    write(buffer, from, 0x6612, words, count)
+        .err()
+        .map(|fault| fault.report().code)
 }
 
 #[test]
 fn a_refusal_leaves_the_buffer(rt: HostRuntime) {
     let mut buffer = [0xEE; 12];
     // more than two words, or a count above 16,383, comes before the end of the buffer
-    assert_eq!(rt; code(&mut buffer, 0, &[1, 2, 3], 0), 0x72);
-    assert_eq!(rt; code(&mut buffer, 20, &[1, 2, 3], 0), 0x72);
-    assert_eq!(rt; code(&mut buffer, usize::MAX, &[1], 16384), 0x72);
-    assert_eq!(rt; code(&mut buffer, 3, &[1], 0), 0x71);
-    assert_eq!(rt; code(&mut buffer, 13, &[], 0), 0x71);
-    assert_eq!(rt; code(&mut buffer, usize::MAX, &[1], 0), 0x71);
+    assert_eq!(rt; code(&mut buffer, 0, &[1, 2, 3], 0), Some(0x72));
+    assert_eq!(rt; code(&mut buffer, 20, &[1, 2, 3], 0), Some(0x72));
+    assert_eq!(rt; code(&mut buffer, usize::MAX, &[1], 16384), Some(0x72));
+    assert_eq!(rt; code(&mut buffer, 3, &[1], 0), Some(0x71));
+    assert_eq!(rt; code(&mut buffer, 13, &[], 0), Some(0x71));
+    assert_eq!(rt; code(&mut buffer, usize::MAX, &[1], 0), Some(0x71));
     assert_eq!(rt; buffer, [0xEE; 12]);
 }
 

@@ -22,12 +22,8 @@ pub fn write_frames<'a>(rt: &HostRuntime, buffer: &'a mut [u8]) -> Result<&'a [u
     )?;
     let first = write(buffer, 0, FIRE_RELEASE, &[RELEASE], 0)?;
     let second = write(buffer, first, CONFIRM, &[FIRE_RELEASE, !FIRE_RELEASE], 1)?;
-    let Some((firing, others)) = buffer.split_at_checked(first) else {
-        return Err(Stop::Changed);
-    };
-    let Some((confirm, untouched)) = others.split_at_checked(second) else {
-        return Err(Stop::Changed);
-    };
+    let (firing, others) = buffer.split_at_checked(first).ok_or(Stop::Changed)?;
+    let (confirm, untouched) = others.split_at_checked(second).ok_or(Stop::Changed)?;
     show_octets(rt, "fire release", firing)?;
     show_octets(rt, "confirm", confirm)?;
     show_octets(rt, "untouched", untouched)?;

@@ -70,8 +70,8 @@ fn show_links(rt: &HostRuntime, primary: &[u8], redundant: &[u8]) -> Result<(), 
     Ok(())
 }
 
-// The frame as it comes over a line with noise: octet 1 is another.
-fn damaged(heap: Global, frame: &[u8]) -> Result<Vec<u8>, AllocError> {
+/// The frame as it comes over a line with noise: octet 1 is another.
+pub fn damaged(heap: Global, frame: &[u8]) -> Result<Vec<u8>, AllocError> {
     let mut link = frame.to_vec(heap)?;
     if let Some(octet) = link.get_mut(1) {
         *octet = 0x41;
@@ -80,7 +80,7 @@ fn damaged(heap: Global, frame: &[u8]) -> Result<Vec<u8>, AllocError> {
 }
 
 // The release that stands on the links.
-fn show_release<'a>(rt: &HostRuntime, primary: &'a [u8], redundant: &'a [u8]) -> Result<(), Stop> {
+fn show_release(rt: &HostRuntime, primary: &[u8], redundant: &[u8]) -> Result<(), Stop> {
     let command = read(primary, redundant)?;
     let Command::FireRelease([line, ticks]) = command else {
         return Err(Stop::Changed);
@@ -96,6 +96,6 @@ pub fn take_release(rt: &HostRuntime, firing: &[u8]) -> Result<(), Stop> {
         &["The first frame is sent on both links. Noise meets it on the primary."],
     )?;
     let link = damaged(rt.alloc(), firing)?;
-    show_links(rt, link.as_slice(), firing)?;
-    show_release(rt, link.as_slice(), firing)
+    show_links(rt, &link, firing)?;
+    show_release(rt, &link, firing)
 }

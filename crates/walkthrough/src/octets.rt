@@ -9,7 +9,7 @@ impl<'a> fmt::Display for Octets<'a> {
     fn fmt<W: fmt::Write>(&self, f: &mut fmt::Formatter<W>) -> fmt::Result {
         let Octets(octets) = *self;
         let [first, rest @ ..] = octets else {
-            return write!(f, "none");
+            return f.write_str("none");
         };
         write!(f, "{first:02X}")?;
         for octet in rest {

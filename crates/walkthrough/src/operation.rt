@@ -1,7 +1,7 @@
 //! The head at work: a release is fired, the high voltage fails, and the door closes.
 use super::narration::{heading, paragraph, remark};
 use super::octets::Ports;
-use super::steps::{BROUGHT, FIRED, STEPS, SWITCHED_ON, planned};
+use super::steps::{FIRED, Planned, STEPS, SWITCHED_ON, plan};
 use super::stop::Stop;
 use super::table::{headline, row, show_log};
 use super::uplink::Frames;
@@ -45,7 +45,7 @@ fn stored() -> [u8; 25] {
     stored
 }
 
-fn show_steps(rt: &HostRuntime, steps: &[Step; STEPS]) -> Result<(), Stop> {
+fn show_steps(rt: &HostRuntime, planned: &[Planned], steps: &[Step]) -> Result<(), Stop> {
     paragraph(
         rt,
         &[
@@ -56,8 +56,8 @@ fn show_steps(rt: &HostRuntime, steps: &[Step; STEPS]) -> Result<(), Stop> {
         ],
     )?;
     headline(rt)?;
-    for (i, brought) in BROUGHT.iter().enumerate() {
-        row(rt, i + 1, brought, steps[i].shown)?;
+    for (number, (plan, step)) in (1..).zip(planned.iter().zip(steps)) {
+        row(rt, number, plan.brought, step.shown)?;
     }
     println!(rt)?;
     remark(
@@ -83,7 +83,8 @@ fn bring_slice(
 ) -> [Shown; 2] {
     let mut steps = [Step::new(event); SLICE];
     bring(head, &mut steps, log, rates);
-    [steps[SLICE - 2].shown, steps[SLICE - 1].shown]
+    let [.., before, last] = steps;
+    [before.shown, last.shown]
 }
 
 // The ticks of the closing door.
@@ -136,11 +137,11 @@ fn show_port(
     )?;
     println!(rt; "   {:<26}  supplies  heaters   lines", "moment")?;
     port_row(rt, "as found", FOUND)?;
-    port_row(rt, "the release is fired", port_after(&mut steps[0..FIRED]))?;
+    port_row(rt, "the release is fired", port_after(&mut steps[..FIRED]))?;
     port_row(
         rt,
         "the high voltage is on",
-        port_after(&mut steps[0..SWITCHED_ON]),
+        port_after(&mut steps[..SWITCHED_ON]),
     )?;
     port_row(rt, "in SAFE, the door closes", safe)?;
     port_row(rt, "the door has closed", closed)?;
@@ -149,8 +150,9 @@ fn show_port(
 
 /// Powers a head on, brings it the steps and the ticks of the door, and shows its log.
 pub fn operate_head(rt: &HostRuntime) -> Result<(), Stop> {
-    let frames = Frames::written()?;
-    let mut steps = planned(&frames);
+    let frames = Frames::written(rt.alloc())?;
+    let planned = plan(&frames);
+    let mut steps = planned.map(|plan| Step::new(plan.event));
     let mut entries = [NO_ENTRY; 8];
     let mut slots = [0; 4];
     let mut log = Ring::new(&mut entries);
@@ -162,7 +164,7 @@ pub fn operate_head(rt: &HostRuntime) -> Result<(), Stop> {
         4,
         "The head fires the release, and a check leads to SAFE",
     )?;
-    show_steps(rt, &steps)?;
+    show_steps(rt, &planned, &steps)?;
     heading(rt, 5, "The door closes")?;
     close_door(rt, &mut head, &mut log, &mut rates)?;
     heading(rt, 6, "What the port held")?;

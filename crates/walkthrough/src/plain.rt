@@ -17,63 +17,58 @@ pub struct Plain(pub Report);
 fn read_fault(report: Report) -> Option<ReadFault>
     ensures { IfSome result (λ fault. (read_report fault).code ≡ report.code) }
 {
-    match report.code {
-        0x10 => Some(ReadFault::Header(report.place)),
-        0x20 => Some(ReadFault::Length),
-        0x21 => Some(ReadFault::UnknownCommand(report.opcode)),
-        0x22 => Some(ReadFault::WordCount(report.opcode)),
-        _ => None,
-    }
+    Some(match report.code {
+        0x10 => ReadFault::Header(report.place),
+        0x20 => ReadFault::Length,
+        0x21 => ReadFault::UnknownCommand(report.opcode),
+        0x22 => ReadFault::WordCount(report.opcode),
+        _ => return None,
+    })
 }
 
 // The head's fault that gives a report.
 fn fault(report: Report) -> Option<Fault>
     ensures { IfSome result (λ fault. (report_of fault).code ≡ report.code) }
 {
-    if let Some(unread) = read_fault(report) {
-        return Some(Fault::Unread(unread));
-    }
-    match report.code {
-        0x11 => Some(Fault::BothEmpty),
-        0x23 => Some(Fault::NotInSafe(report.opcode)),
-        0x24 => Some(Fault::CriticalWaits(report.opcode)),
-        0x25 => Some(Fault::WrongConfirm),
-        0x27 => Some(Fault::NothingWaits),
-        0x30 => Some(Fault::TimerRuns),
-        0x40 => Some(Fault::OutOfRange(report.place, report.opcode)),
-        0x41 => Some(Fault::DriveRuns(report.opcode)),
-        0x45 => Some(Fault::ConfirmFailed),
-        0x50 => Some(Fault::RawCount),
-        _ => None,
-    }
+    Some(match report.code {
+        0x11 => Fault::BothEmpty,
+        0x23 => Fault::NotInSafe(report.opcode),
+        0x24 => Fault::CriticalWaits(report.opcode),
+        0x25 => Fault::WrongConfirm,
+        0x27 => Fault::NothingWaits,
+        0x30 => Fault::TimerRuns,
+        0x40 => Fault::OutOfRange(report.place, report.opcode),
+        0x41 => Fault::DriveRuns(report.opcode),
+        0x45 => Fault::ConfirmFailed,
+        0x50 => Fault::RawCount,
+        _ => Fault::Unread(read_fault(report)?),
+    })
 }
 
 // The note that gives a report.
 fn note(report: Report) -> Option<Note>
     ensures { IfSome result (λ note. (note_of note).code ≡ report.code) }
 {
-    match report.code {
-        0x26 => Some(Note::Lost(report.opcode)),
-        0x28 => Some(Note::Late(report.opcode)),
-        0x52 => Some(Note::Replaced((report.place % 256) as u8)),
-        0x60 => Some(Note::Tripped(Check::Plate)),
-        0x61 => Some(Note::Tripped(Check::Strip)),
-        0x62 => Some(Note::Tripped(Check::Anode)),
-        0x63 => Some(Note::Tripped(Check::Rate)),
-        0x64 => Some(Note::Tripped(Check::Temperature)),
-        _ => None,
-    }
+    Some(match report.code {
+        0x26 => Note::Lost(report.opcode),
+        0x28 => Note::Late(report.opcode),
+        0x52 => Note::Replaced((report.place % 256) as u8),
+        0x60 => Note::Tripped(Check::Plate),
+        0x61 => Note::Tripped(Check::Strip),
+        0x62 => Note::Tripped(Check::Anode),
+        0x63 => Note::Tripped(Check::Rate),
+        0x64 => Note::Tripped(Check::Temperature),
+        _ => return None,
+    })
 }
 
 impl fmt::Display for Plain {
     fn fmt<W: fmt::Write>(&self, f: &mut fmt::Formatter<W>) -> fmt::Result {
         let Plain(report) = *self;
-        if let Some(fault) = fault(report) {
-            return write!(f, "{fault}");
+        match (fault(report), note(report)) {
+            (Some(fault), _) => fault.fmt(f),
+            (None, Some(note)) => note.fmt(f),
+            (None, None) => f.write_str("no fault or note of the head has this code"),
         }
-        if let Some(note) = note(report) {
-            return write!(f, "{note}");
-        }
-        write!(f, "no fault or note of the head has this code")
     }
 }

@@ -2,39 +2,24 @@
 use std::alloc::AllocError;
 use std::io;
 use telecommand::{ReadFault, WriteFault};
+use thiserror::Error;
 
-#[derive(Debug, Drop)]
+#[derive(Debug, Drop, Error)]
 pub enum Stop {
-    /// Nothing can be printed.
-    Print(io::Error),
-    /// There is no memory for a link or an answer.
+    #[error("nothing can be printed: {0}")]
+    Print(#[from] io::Error),
+    #[error("there is no memory for a frame, a link or an answer")]
     Memory,
-    Read(ReadFault),
-    Write(WriteFault),
-    /// Something else was read than was written.
+    #[error("what is on the links is no command: {0}")]
+    Read(#[from] ReadFault),
+    #[error("a frame cannot be written: {0}")]
+    Write(#[from] WriteFault),
+    #[error("something else was read than was written")]
     Changed,
-}
-
-impl From<io::Error> for Stop {
-    fn from(error: io::Error) -> Stop {
-        Stop::Print(error)
-    }
 }
 
 impl From<AllocError> for Stop {
     fn from(_: AllocError) -> Stop {
         Stop::Memory
-    }
-}
-
-impl From<ReadFault> for Stop {
-    fn from(fault: ReadFault) -> Stop {
-        Stop::Read(fault)
-    }
-}
-
-impl From<WriteFault> for Stop {
-    fn from(fault: WriteFault) -> Stop {
-        Stop::Write(fault)
     }
 }

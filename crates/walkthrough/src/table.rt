@@ -19,7 +19,7 @@ impl fmt::Display for Lines {
             if *on {
                 write!(f, "{line}")?;
             } else {
-                write!(f, "-")?;
+                f.write_char('-')?;
             }
         }
         Ok(())
@@ -39,8 +39,8 @@ fn mode_name(mode: Mode) -> &'static str {
 
 fn answer(heap: Global, fault: Option<Report>) -> Result<String, AllocError> {
     match fault {
-        None => String::from_str(heap, "accepted"),
-        Some(report) => format!(in heap; "{}", Plain(report)),
+        None => "accepted".to_string(heap),
+        Some(report) => Plain(report).to_string(heap),
     }
 }
 
@@ -56,12 +56,10 @@ pub fn row(rt: &HostRuntime, number: usize, brought: &str, shown: Shown) -> Resu
     let answer = answer(rt.alloc(), shown.fault)?;
     let mode = mode_name(shown.mode);
     let [supply0, supply1] = shown.supplies;
-    let [heater0, heater1] = shown.heaters;
-    let first = switch(heater0);
-    let second = switch(heater1);
+    let [heater0, heater1] = shown.heaters.map(switch);
     let lines = Lines(shown.lines);
     println!(rt;
-        "   {number:>3}  {brought:<41}  {answer:<41}  {mode:<8}  {supply0:>3}  {supply1:>3}  {first:<3} {second:<3}  {lines}"
+        "   {number:>3}  {brought:<41}  {answer:<41}  {mode:<8}  {supply0:>3}  {supply1:>3}  {heater0:<3} {heater1:<3}  {lines}"
     )?;
     Ok(())
 }
@@ -81,10 +79,8 @@ fn entry_row(rt: &HostRuntime, entry: Entry) -> io::Result<()> {
 /// The log, from the oldest entry to the newest.
 pub fn show_log(rt: &HostRuntime, log: &Ring<'_, Entry>) -> io::Result<()> {
     println!(rt; "      time  layer  code  place  op-code  in words")?;
-    for age in (0..log.len()).rev() {
-        if let Some(entry) = log.get(age) {
-            entry_row(rt, entry)?;
-        }
+    for entry in (0..log.len()).rev().filter_map(|age| log.get(age)) {
+        entry_row(rt, entry)?;
     }
     Ok(())
 }

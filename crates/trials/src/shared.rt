@@ -1,0 +1,25 @@
+//! What several trials use: a ring against the records that it should hold, and a report from its four numbers.
+use codes::Report;
+use ring::Ring;
+use std::fmt::Debug;
+use std::process::Abort;
+
+/// The ring holds these records, newest first, and none beyond.
+pub fn holds<T: Copy + PartialEq + Debug>(rt: &impl Abort, ring: &Ring<'_, T>, newest_first: &[T]) {
+    assert_eq!(rt; ring.len(), newest_first.len());
+    for (age, record) in newest_first.iter().enumerate() {
+        assert_eq!(rt; ring.get(age), Some(*record));
+    }
+    assert_eq!(rt; ring.get(newest_first.len()), None);
+    assert_eq!(rt; ring.get(usize::MAX), None);
+}
+
+/// A report: layer, code, place, op-code.
+pub const fn report(layer: u8, code: u8, place: u16, opcode: u16) -> Report {
+    Report {
+        layer,
+        code,
+        place,
+        opcode,
+    }
+}
