@@ -2,9 +2,8 @@
 use super::shared::{holds, report};
 use board::PortBoard;
 use codes::Entry;
-use head::{Head, Mark, Mode, defaults};
+use head::{Head, Mark, Mode, Records, defaults};
 use interlock::{Event, Step, operate};
-use ring::Ring;
 use std::process::Abort;
 use std::test::Fail;
 
@@ -37,15 +36,14 @@ fn mark(raw: u32) -> Mark {
 fn after_marks(rt: &impl Abort, raw: u32) -> Result<(Mode, Option<Entry>), Fail> {
     let mut entries = [entry(0, 0, 0, 0, 0); 2];
     let mut slots = [0; 2];
-    let mut log = Ring::new(&mut entries);
-    let mut rates = Ring::new(&mut slots);
-    let mut head = Head::power_on(PortBoard::new([0; 4]), defaults(), &mut log, &mut rates);
-    head.frame(&CHECKOUT, &[], &mut log)?;
-    head.second(mark(0), &mut log, &mut rates)?;
+    let mut records = Records::new(&mut entries, &mut slots);
+    let mut head = Head::power_on(PortBoard::new([0; 4]), defaults(), &mut records);
+    head.frame(&CHECKOUT, &[], &mut records.log)?;
+    head.second(mark(0), &mut records)?;
     assert_eq!(rt; head.mode(), Mode::Checkout);
-    head.second(mark(raw), &mut log, &mut rates)?;
-    assert_eq!(rt; rates.get(1), Some(0));
-    Ok((head.mode(), log.get(0)))
+    head.second(mark(raw), &mut records)?;
+    assert_eq!(rt; records.rates.get(1), Some(0));
+    Ok((head.mode(), records.log.get(0)))
 }
 
 #[test]
@@ -60,24 +58,17 @@ fn a_rate_above_the_limit_trips(rt: HostRuntime) -> Result<(), Fail> {
 fn the_log_has_each_entry_in_order(rt: HostRuntime) {
     let mut entries = [entry(0, 0, 0, 0, 0); 8];
     let mut slots = [0; 2];
-    let mut log = Ring::new(&mut entries);
-    let mut rates = Ring::new(&mut slots);
+    let mut records = Records::new(&mut entries, &mut slots);
     let mut steps = [
         Step::new(Event::Frame(&CHECKOUT, &[])),
         Step::new(Event::Frame(&FIRE, &[])),
         Step::new(Event::Frame(&NOISY, &BLANK_CONFIRM)),
     ];
-    let head = operate(
-        PortBoard::new([0; 4]),
-        defaults(),
-        &mut steps,
-        &mut log,
-        &mut rates,
-    );
+    let head = operate(PortBoard::new([0; 4]), defaults(), &mut steps, &mut records);
     let set_aside = entry(1_000_000, 1, 0x10, 1, 0);
     let lost = entry(1_000_000, 2, 0x26, 6, 0x6612);
     let refused = entry(1_000_000, 2, 0x22, 8, 0x6604);
-    holds(&rt, &log, &[refused, lost, set_aside]);
+    holds(&rt, &records.log, &[refused, lost, set_aside]);
     assert_eq!(rt; steps[1].shown.fault, None);
     assert_eq!(rt; steps[2].shown.fault, Some(refused.report));
     assert_eq!(rt; head.board().bytes(), [0; 4]);
@@ -85,8 +76,7 @@ fn the_log_has_each_entry_in_order(rt: HostRuntime) {
 
 #[test]
 fn no_memory_does_no_harm(rt: HostRuntime) {
-    let mut log = Ring::new(&mut []);
-    let mut rates = Ring::new(&mut []);
+    let mut records = Records::new(&mut [], &mut []);
     let mut steps = [
         Step::new(Event::Frame(&CHECKOUT, &[])),
         Step::new(Event::Frame(&FIRE, &[])),
@@ -95,15 +85,9 @@ fn no_memory_does_no_harm(rt: HostRuntime) {
         Step::new(Event::Second(mark(70_000))),
     ];
     // check mask, override and closing on SAFE are outside their ranges; the rate's limit is 65,280
-    let head = operate(
-        PortBoard::new([0; 4]),
-        [255; 25],
-        &mut steps,
-        &mut log,
-        &mut rates,
-    );
-    assert_eq!(rt; log.len(), 0);
-    assert_eq!(rt; rates.len(), 0);
+    let head = operate(PortBoard::new([0; 4]), [255; 25], &mut steps, &mut records);
+    assert_eq!(rt; records.log.len(), 0);
+    assert_eq!(rt; records.rates.len(), 0);
     let refused = entry(1_000_000, 2, 0x22, 8, 0x6604);
     assert_eq!(rt; steps[2].shown.fault, Some(refused.report));
     assert_eq!(rt; steps[3].shown.mode, Mode::Checkout);

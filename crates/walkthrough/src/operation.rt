@@ -7,9 +7,8 @@ use super::table::{headline, row, show_log};
 use super::uplink::Frames;
 use board::{Crossed, PortBoard};
 use codes::{Entry, Report};
-use head::{Head, defaults};
+use head::{Head, Records, defaults};
 use interlock::{Event, Shown, Step, bring, operate};
-use ring::Ring;
 use std::io;
 
 type Driven = Crossed<PortBoard>;
@@ -75,14 +74,9 @@ fn show_steps(rt: &HostRuntime, planned: &[Planned], steps: &[Step]) -> Result<(
 }
 
 // Brings an event `SLICE` times, one after the other, and returns what the last two show.
-fn bring_slice(
-    head: &mut Head<Driven>,
-    event: Event,
-    log: &mut Ring<Entry>,
-    rates: &mut Ring<u16>,
-) -> [Shown; 2] {
+fn bring_slice(head: &mut Head<Driven>, event: Event, records: &mut Records) -> [Shown; 2] {
     let mut steps = [Step::new(event); SLICE];
-    bring(head, &mut steps, log, rates);
+    bring(head, &mut steps, records);
     let [.., before, last] = steps;
     [before.shown, last.shown]
 }
@@ -91,17 +85,16 @@ fn bring_slice(
 fn close_door(
     rt: &HostRuntime,
     head: &mut Head<Driven>,
-    log: &mut Ring<Entry>,
-    rates: &mut Ring<u16>,
+    records: &mut Records,
 ) -> Result<(), Stop> {
     paragraph(
         rt,
         &["The line of the closing door is driven for 360 ticks. The last two of them:"],
     )?;
     for _ in 0..8 {
-        let _ = bring_slice(head, Event::Tick, log, rates);
+        let _ = bring_slice(head, Event::Tick, records);
     }
-    let [before, last] = bring_slice(head, Event::Tick, log, rates);
+    let [before, last] = bring_slice(head, Event::Tick, records);
     headline(rt)?;
     row(rt, 359, "a tick", before)?;
     row(rt, 360, "a tick", last)
@@ -109,9 +102,8 @@ fn close_door(
 
 // The port after the steps, brought to a head of its own that keeps no log.
 fn port_after(steps: &mut [Step]) -> [u8; 4] {
-    let mut log = Ring::new(&mut []);
-    let mut rates = Ring::new(&mut []);
-    let head = operate(harnessed(), stored(), steps, &mut log, &mut rates);
+    let mut records = Records::new(&mut [], &mut []);
+    let head = operate(harnessed(), stored(), steps, &mut records);
     head.board().board().bytes()
 }
 
@@ -155,9 +147,8 @@ pub fn operate_head(rt: &HostRuntime) -> Result<(), Stop> {
     let mut steps = planned.map(|plan| Step::new(plan.event));
     let mut entries = [NO_ENTRY; 8];
     let mut slots = [0; 4];
-    let mut log = Ring::new(&mut entries);
-    let mut rates = Ring::new(&mut slots);
-    let mut head = operate(harnessed(), stored(), &mut steps, &mut log, &mut rates);
+    let mut records = Records::new(&mut entries, &mut slots);
+    let mut head = operate(harnessed(), stored(), &mut steps, &mut records);
     let safe = head.board().board().bytes();
     heading(
         rt,
@@ -166,11 +157,11 @@ pub fn operate_head(rt: &HostRuntime) -> Result<(), Stop> {
     )?;
     show_steps(rt, &planned, &steps)?;
     heading(rt, 5, "The door closes")?;
-    close_door(rt, &mut head, &mut log, &mut rates)?;
+    close_door(rt, &mut head, &mut records)?;
     heading(rt, 6, "What the port held")?;
     let closed = head.board().board().bytes();
     show_port(rt, &mut steps, safe, closed)?;
     heading(rt, 7, "The log, from the oldest entry to the newest")?;
-    show_log(rt, &log)?;
+    show_log(rt, &records.log)?;
     Ok(())
 }
