@@ -1,7 +1,7 @@
 use Rattle.std.proofs.Common.{◌≡◌, ℕ, length, sym, refl, subst, arith}
 use Rattle.head.specs.State.{state_of}
 use Rattle.interlock.specs.Runs.{Ran}
-use Rattle.interlock.proofs.Runs.{ran_none, ran_more, run_stands, run_rates, run_log}
+use Rattle.interlock.proofs.Runs.{ran_more, run_stands, run_rates, run_log}
 use Rattle.interlock.proofs.run.bring.Goals as goal
 
 pub loop-step-preserved : goal.loop-step-preserved
