@@ -1,6 +1,5 @@
 -- Everything off, setting by setting.
-use Rattle.std.proofs.Common.{◌≡◌, ℕ, zero, suc, ◌+◌, Bool, false, List, [], ◌∷◌, length, set, refl, ap, ◌∙◌, add-one, arith}
-use Rattle.board.specs.declared.line_state.LineState.{LineState}
+use Rattle.std.proofs.Common.{◌≡◌, ℕ, zero, suc, ◌+◌, false, List, [], ◌∷◌, length, set, refl, add-one, arith}
 use Rattle.board.specs.declared.line_state.LineState.TheVariants.{Off}
 use Rattle.board.specs.Meaning.{Outputs, Whole, dark, with_supply, with_heater, with_line}
 
@@ -33,12 +32,5 @@ six (p ∷ q ∷ r ∷ s ∷ []) x e = absurd (omega arith)
 six (p ∷ q ∷ r ∷ s ∷ t ∷ []) x e = absurd (omega arith)
 six (p ∷ q ∷ r ∷ s ∷ t ∷ u ∷ v ∷ l) x e = absurd (omega arith)
 
-abbrev made : List ℕ → List Bool → List LineState → Outputs
-made s h l = record { supplies = s; heaters = h; lines = l }
-
 pub all_dark : (o : Outputs) → Whole o → off_lines 6 (off_pairs 2 o) ≡ dark
-all_dark o w =
-    let s = set (set o.supplies 0 0) 1 0 in
-    let h = set (set o.heaters 0 false) 1 false in
-    let l = (off_lines 6 o).lines in
-    ap (λ x. made x h l) (two o.supplies 0 w.supplies) ∙ ap (λ x. made (0 ∷ 0 ∷ []) x l) (two o.heaters false w.heaters) ∙ ap (made (0 ∷ 0 ∷ []) (false ∷ false ∷ [])) (six o.lines Off w.lines)
+all_dark o w = cc (two o.supplies 0 w.supplies, two o.heaters false w.heaters, six o.lines Off w.lines)

@@ -1,9 +1,8 @@
 -- The laws of `put` and `bits`.
-use Rattle.std.specs.Prelude.{◌≡◌, ℕ, zero, suc, ◌+◌, ◌-◌, ◌*◌, ◌/◌, ◌%◌, ◌^◌, ◌<◌, ◌≤◌, max, Bool, true, false, ◌∷◌, length, ◌==◌, bit_and, bit_or, nat_eq, slice_index_or, slice_set, refl}
-use Rattle.std.proofs.Common.{sym, ap, ◌∙◌, subst, mul_assoc, add-mul, add_comm, mod-lt, zero-mul, add-one, arith, pow-add, pow_pos, pow_mono, shr-shr, shl_exact}
-use Rattle.std.proofs.Math.Nat.{zero-mod}
+use Rattle.std.specs.Prelude.{◌≡◌, ℕ, zero, suc, ◌+◌, ◌-◌, ◌*◌, ◌/◌, ◌%◌, ◌^◌, ◌<◌, ◌≤◌, Bool, true, false, ◌∷◌, length, ◌==◌, bit_and, bit_or, nat_eq, slice_index_or, slice_set, refl}
+use Rattle.std.proofs.Common.{sym, ap, ◌∙◌, subst, mul_assoc, add-mul, add_comm, mod-lt, add-one, arith, pow-add, pow_pos, pow_mono, shr-shr, shl_exact}
 use Rattle.std.proofs.lemmas.Nat.{and_block, or_block, or_shifted, and_mask, mod-pow-add}
-use Rattle.std.specs.Int.Bits.{or_zero_r, or_step}
+use Rattle.std.specs.Int.Bits.{or_zero_r}
 use Rattle.std.proofs.Math.Pow.{split, high, low, mod-mod-pow, shr_mod, ones_split, ones_lt}
 use mir.Val.{bool_byte}
 use Rattle.board.specs.Bits.{bits, put}
@@ -119,28 +118,6 @@ put_word z w j k v hz hw hv =
     let lt : w < 2 ^ ((z - (j + k)) + (j + k)) = subst (λ (q : ℕ). w < 2 ^ q) (sym e) hw in
     rw (shl_exact j k z (ones_lt j) hz, shl_exact j k z hv hz) (subst (λ (q : ℕ). bit_or (bit_and w (2 ^ q - 1 - (2 ^ j - 1) * 2 ^ k)) (v * 2 ^ k) ≡ put w j k v) e (put_code (z - (j + k)) w j k v lt hv))
 
--- `w | (1 << k)` and `w & !(1 << k)`
-
-or_one : (n : ℕ) → bit_or n 1 ≡ n / 2 * 2 + 1
-or_one n =
-    let s : bit_or n 1 ≡ bit_or (n / 2) 0 * 2 + max (n % 2) 1 = or_step n 1 in
-    omega (arith, or_zero_r (n / 2))
-
-pub set_code : (z w k : ℕ) → k < z → bit_or w ((1 * 2 ^ k) % 2 ^ z) ≡ put w 1 k 1
-unfolding put
-set_code z w k h =
-    let h1 : 1 + k ≤ z = omega arith in
-    let whole : (1 * 2 ^ k) % 2 ^ z ≡ 1 * 2 ^ k + 0 = shl_exact {a = 1} 1 k z (omega arith) h1 ∙ omega arith in
-    let q = w / 2 ^ k in
-    let up : q / 2 ≡ w / 2 ^ (1 + k) = shr-shr w k 1 ∙ ap (λ e. w / 2 ^ e) (add_comm k 1) in
-    ap (bit_or w) whole
-    ∙ ap (λ x. bit_or x (1 * 2 ^ k + 0)) (sym (split w k))
-    ∙ or_block k q 1 (w % 2 ^ k) 0 (mod-lt w (pow_pos k)) (pow_pos k)
-    ∙ ap (λ x. bit_or q 1 * 2 ^ k + x) (or_zero_r (w % 2 ^ k))
-    ∙ ap (λ x. x * 2 ^ k + w % 2 ^ k) (or_one q ∙ ap (λ x. x * 2 + 1) up)
-
-pub clear_code : (z w k : ℕ) → k < z → w < 2 ^ z → bit_and w (2 ^ z - 1 - (1 * 2 ^ k) % 2 ^ z) ≡ put w 1 k 0
-clear_code z w k h hw =
-    let m = bit_and w (2 ^ z - 1 - (1 * 2 ^ k) % 2 ^ z) in
-    let zero-part : (0 * 2 ^ k) % 2 ^ z ≡ 0 = ap (λ x. x % 2 ^ z) (zero-mul (2 ^ k)) ∙ zero-mod (2 ^ z) in
-    sym (or_zero_r m) ∙ ap (bit_or m) (sym zero-part) ∙ put_word z w 1 k 0 (omega arith) hw (omega arith)
+-- the code of `with_bit`
+pub put_code8 : (w k v : ℕ) → w < 2 ^ 8 → k < 8 → v < 2 → bit_or (bit_and w (2 ^ 8 - 1 - (1 * 2 ^ k) % 2 ^ 8)) ((v * 2 ^ k) % 2 ^ 8) ≡ put w 1 k v
+put_code8 w k v hw hk hv = put_word 8 w 1 k v (omega arith) hw hv

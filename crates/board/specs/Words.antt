@@ -1,13 +1,13 @@
 -- The word of a chain: how it is shifted in, and what a field put into it means.
-use Rattle.std.specs.Prelude.{◌≡◌, ℕ, zero, suc, ◌+◌, ◌-◌, ◌*◌, ◌/◌, ◌%◌, ◌^◌, ◌<◌, ◌≤◌, Bool, false, List, [], ◌∷◌, map, ◌==◌, bit_and, bit_or, nat_eq, slice_index_or, refl}
-use Rattle.std.proofs.Common.{sym, ap, subst, ◌∙◌, add_comm, arith, shr-shr}
+use Rattle.std.specs.Prelude.{◌≡◌, ℕ, zero, suc, ◌+◌, ◌-◌, ◌*◌, ◌/◌, ◌%◌, ◌^◌, ◌<◌, ◌≤◌, Bool, false, ◌==◌, bit_and, bit_or, nat_eq, slice_index_or, refl}
+use Rattle.std.proofs.Common.{sym, ap, ◌∙◌, add_comm, arith, shr-shr}
 use Rattle.std.proofs.Math.Pow.{mod-mod-pow}
 use mir.Val.{bool_byte}
 use Rattle.std.proofs.lemmas.Nat.{one_shl, or_shifted, and_mask, mod-pow-add}
-use Rattle.board.specs.Meaning.{Outputs, Whole, with_supply, with_heater, with_line}
+use Rattle.board.specs.Meaning.{Whole, with_supply, with_heater, with_line}
 use Rattle.board.specs.Bits.{bits, put}
 use Rattle.board.specs.Chain.{word_outputs}
-use Rattle.board.specs.Lines.{is_on, line_of}
+use Rattle.board.specs.Lines.{is_on}
 use Rattle.board.specs.declared.line_state.LineState.{LineState}
 use Rattle.board.specs.LinesLemmas.{lines_length, lines_put}
 use Rattle.board.specs.Put.{length_bits, bits_mod, bits_put, get_or_bits, put_get, put_below, put_above, put_shr, put_word, byte_small}
@@ -31,56 +31,41 @@ pub test_byte : (n : ℕ) → bool_byte (bit_and n 1 == 1) ≡ n % 2
 test_byte n = rw (and_mask n 1) (digit_byte (n % 2) (omega arith))
 
 -- after one clock more, the low cells hold one bit more of the word
-pub shift_more : (x w i b : ℕ) → i < 32 → b ≡ w / 2 ^ (31 - i) % 2 → x % 2 ^ i ≡ w / 2 ^ (32 - i) → ((x * 2) % 2 ^ 32 + b) % 2 ^ (i + 1) ≡ w / 2 ^ (32 - (i + 1))
-shift_more x w i b h e inv =
-    let q = w / 2 ^ (31 - i) in
+pub shift_more : (x w k b : ℕ) → 0 < k → k ≤ 32 → b ≡ w / 2 ^ (k - 1) % 2 → x % 2 ^ (32 - k) ≡ w / 2 ^ k → ((x * 2) % 2 ^ 32 + b) % 2 ^ (32 - (k - 1)) ≡ w / 2 ^ (k - 1)
+shift_more x w k b h l e inv =
+    let i = 32 - k in
+    let q = w / 2 ^ (k - 1) in
     let n = (x * 2) % 2 ^ 32 + b in
-    let half : w / 2 ^ (32 - i) ≡ q / 2 = ap (λ k. w / 2 ^ k) (omega arith) ∙ sym (shr-shr w (31 - i) 1) in
-    let last : w / 2 ^ (32 - (i + 1)) ≡ q = ap (λ k. w / 2 ^ k) (omega arith) in
+    let half : w / 2 ^ k ≡ q / 2 = ap (λ j. w / 2 ^ j) (omega arith) ∙ sym (shr-shr w (k - 1) 1) in
     let up : n / 2 ≡ x % 2 ^ 31 = omega arith in
     let low : n % 2 ≡ b = omega arith in
-    let whole : ◌≡◌ {A = ℕ} 31 ((31 - i) + i) = omega arith in
-    let cut : x % 2 ^ 31 % 2 ^ i ≡ x % 2 ^ i = ap (λ k. x % 2 ^ k % 2 ^ i) whole ∙ mod-mod-pow x (31 - i) i in
+    let whole : ◌≡◌ {A = ℕ} 31 ((k - 1) + i) = omega arith in
+    let cut : x % 2 ^ 31 % 2 ^ i ≡ x % 2 ^ i = ap (λ j. x % 2 ^ j % 2 ^ i) whole ∙ mod-mod-pow x (k - 1) i in
     let high : n / 2 % 2 ^ i ≡ q / 2 = ap (λ y. y % 2 ^ i) up ∙ cut ∙ inv ∙ half in
     let step : n % 2 ^ (i + 1) ≡ (n / 2 % 2 ^ i) * 2 + n % 2 = mod-pow-add n i 1 in
+    let more : n % 2 ^ (32 - (k - 1)) ≡ n % 2 ^ (i + 1) = ap (λ j. n % 2 ^ j) (omega arith) in
     omega arith
 
 pub shift_below : (x : ℕ) (b : Bool) → (x * 2) % 2 ^ 32 + bool_byte b < 2 ^ 32
 shift_below x b = omega (arith, byte_small b)
 
--- after 32 clocks the cells hold the word
-pub sent : (x w i : ℕ) → i ≡ 32 → x < 2 ^ 32 → x % 2 ^ i ≡ w / 2 ^ (32 - i) → x ≡ w
-sent x w i e h inv =
-    let f : x % 2 ^ 32 ≡ w / 2 ^ 0 = subst (λ (k : ℕ). x % 2 ^ k ≡ w / 2 ^ (32 - k)) e inv in
-    omega arith
-
 -- fields
-
-abbrev made : List ℕ → List Bool → List LineState → Outputs
-made s h l = record { supplies = s; heaters = h; lines = l }
-
-same : {s t : List ℕ} {h g : List Bool} {l m : List LineState} → s ≡ t → h ≡ g → l ≡ m → made s h l ≡ made t g m
-same {s} {t} {h} {g} {l} {m} p q r = ap (λ x. made x h l) p ∙ ap (λ x. made t x l) q ∙ ap (made t g) r
-
-pair : {p q r s : ℕ} → p ≡ r → q ≡ s → p ∷ q ∷ [] ≡ r ∷ s ∷ []
-pair {p} {q} {r} {s} e f = ap (λ x. x ∷ q ∷ []) e ∙ ap (λ x. r ∷ x ∷ []) f
 
 pub put_rest : (w j k v : ℕ) → w < 2 ^ 24 → j + k ≤ 24 → v < 2 ^ j → put w j k v < 2 ^ 24
 put_rest w j k v hw hp hv = omega (arith, put_above w j k v 24 hv (omega arith))
 
 pub line_word : (w i : ℕ) (s : LineState) → i < 6 → word_outputs (put w 1 i (bool_byte (is_on s))) ≡ with_line (word_outputs w) i s
 line_word w i s h =
-    let b = is_on s in
-    let up : (m : ℕ) → 6 ≤ m → put w 1 i (bool_byte b) / 2 ^ m ≡ w / 2 ^ m = λ m l. put_above w 1 i (bool_byte b) m (byte_small b) (omega arith) in
-    same (pair (ap (λ x. x % 2 ^ 8) (up 8 (omega arith))) (ap (λ x. x % 2 ^ 8) (up 16 (omega arith)))) (ap (bits 2) (up 6 (omega arith))) (lines_put 6 w i s)
+    let b = bool_byte (is_on s) in
+    let up : (m : ℕ) → 6 ≤ m → put w 1 i b / 2 ^ m ≡ w / 2 ^ m = λ m l. put_above w 1 i b m (byte_small (is_on s)) (omega arith) in
+    cc (up 6 (omega arith), up 8 (omega arith), up 16 (omega arith), lines_put 6 w i s)
 
 pub heater_word : (w i : ℕ) (b : Bool) → i < 2 → word_outputs (put w 1 (6 + i) (bool_byte b)) ≡ with_heater (word_outputs w) i b
 heater_word w i b h =
     let v = bool_byte b in
     let up : (m : ℕ) → 8 ≤ m → put w 1 (6 + i) v / 2 ^ m ≡ w / 2 ^ m = λ m l. put_above w 1 (6 + i) v m (byte_small b) (omega arith) in
-    same (pair (ap (λ x. x % 2 ^ 8) (up 8 (omega arith))) (ap (λ x. x % 2 ^ 8) (up 16 (omega arith))))
-    (ap (bits 2) (ap (λ k. put w 1 k v / 2 ^ 6) (add_comm 6 i) ∙ put_shr w 1 i 6 v) ∙ bits_put 2 (w / 2 ^ 6) i b)
-    (ap (map line_of) (bits_mod 6 (put w 1 (6 + i) v) w (put_below w 1 (6 + i) v 6 (omega arith))))
+    let low = bits_mod 6 (put w 1 (6 + i) v) w (put_below w 1 (6 + i) v 6 (omega arith)) in
+    cc (up 8 (omega arith), up 16 (omega arith), add_comm 6 i, put_shr w 1 i 6 v, bits_put 2 (w / 2 ^ 6) i b, low)
 
 -- a supply lies above the heaters and the lines
 low_part : (w k v : ℕ) → (put w 8 (k + 8) v / 2 ^ 6 % 2 ^ 2 ≡ w / 2 ^ 6 % 2 ^ 2) × (put w 8 (k + 8) v % 2 ^ 6 ≡ w % 2 ^ 6)
@@ -92,10 +77,10 @@ low_part w k v = (
 pub supply_word : (w i v : ℕ) → i < 2 → v < 2 ^ 8 → word_outputs (put w 8 (8 + 8 * i) v) ≡ with_supply (word_outputs w) i v
 supply_word w zero v h l =
     let p = low_part w 0 v in
-    same (pair (put_get w 8 8 v l) (ap (λ x. x % 2 ^ 8) (put_above w 8 8 v 16 l (omega arith)))) (bits_mod 2 _ _ p.0) (ap (map line_of) (bits_mod 6 _ _ p.1))
+    cc (put_get w 8 8 v l, put_above w 8 8 v 16 l (omega arith), bits_mod 2 _ _ p.0, bits_mod 6 _ _ p.1)
 supply_word w (suc zero) v h l =
     let p = low_part w 8 v in
-    same (pair (ap (λ x. x % 2 ^ 8) (put_shr w 8 8 8 v) ∙ put_below (w / 2 ^ 8) 8 8 v 8 (omega arith)) (put_get w 8 16 v l)) (bits_mod 2 _ _ p.0) (ap (map line_of) (bits_mod 6 _ _ p.1))
+    cc (put_shr w 8 8 8 v, put_below (w / 2 ^ 8) 8 8 v 8 (omega arith), put_get w 8 16 v l, bits_mod 2 _ _ p.0, bits_mod 6 _ _ p.1)
 supply_word w (suc (suc i)) v h l = absurd (omega arith)
 
 -- the code of `put_field`

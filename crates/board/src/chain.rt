@@ -5,6 +5,7 @@ ghost use Rattle.board.specs.Chain.{word_outputs};
 ghost use Rattle.board.specs.Shift.{sent};
 ghost use Rattle.board.specs.Words.{word_whole};
 
+use super::fault::within;
 use super::{Board, Fault, LineState, ShiftRegister};
 
 /// Bits 0 to 5 of the latched word are the lines, 6 and 7 the heaters, 8 to 15 supply 0, 16 to 23 supply 1; the rest
@@ -16,6 +17,7 @@ pub struct ChainBoard {
 }
 
 // `word` with `value` in place of the `width` bits from bit `at` on.
+#[tactic(auto, using(crate::specs::Words::put_code32, crate::specs::Words::put_rest))]
 fn put_field(word: u32, width: u8, at: u8, value: u8) -> u32
     requires word { word < 2 ^ 24 }
     requires place { width + at ≤ 24 }
@@ -24,10 +26,11 @@ fn put_field(word: u32, width: u8, at: u8, value: u8) -> u32
     ensures rest { result < 2 ^ 24 }
 {
     let mask = ((1u32 << width) - 1) << at;
-    (word & !mask) | ((value as u32) << at)
+    (word & !mask) | (u32::from(value) << at)
 }
 
 // The `width` bits of `word` from bit `at` on.
+#[tactic(auto, using(crate::specs::Words::field_code))]
 fn get_field(word: u32, width: u8, at: u8) -> u8
     requires { (width ≤ 8) × (at < 32) }
     ensures { result ≡ field_at word width at }
@@ -36,11 +39,12 @@ fn get_field(word: u32, width: u8, at: u8) -> u8
 }
 
 // Brings a word across: 32 clocks, highest bit first, and one latch.
+#[tactic(auto, using(crate::specs::Words::shift_more, crate::specs::Words::shift_below, crate::specs::Words::test_byte))]
 fn send(register: &mut ShiftRegister, word: u32)
     ensures { register.new ≡ sent register.old word }
 {
-    for i in 0..32u32 {
-        register.clock((word >> (31 - i)) & 1 == 1);
+    for i in (0..32u32).rev() {
+        register.clock((word >> i) & 1 == 1);
     }
     register.latch();
 }
@@ -64,56 +68,45 @@ impl ChainBoard {
     }
 }
 
+#[tactic(auto, using(crate::proofs::KeptAsBits::kept_in_a_word))]
 impl Board for ChainBoard {
     ghost means = { λ b. word_outputs b.register.latched };
 
     ghost whole = { λ b. word_whole b.register.latched };
 
     fn set_supply(&mut self, which: u8, set_point: u8) -> Result<(), Fault> {
-        if which >= 2 {
-            return Err(Fault::NamesNothing);
-        }
+        within(which, 2)?;
         let word = put_field(self.register.latched(), 8, 8 + 8 * which, set_point);
         send(&mut self.register, word);
         Ok(())
     }
 
     fn set_heater(&mut self, which: u8, on: bool) -> Result<(), Fault> {
-        if which >= 2 {
-            return Err(Fault::NamesNothing);
-        }
-        let word = put_field(self.register.latched(), 1, 6 + which, on as u8);
+        within(which, 2)?;
+        let word = put_field(self.register.latched(), 1, 6 + which, u8::from(on));
         send(&mut self.register, word);
         Ok(())
     }
 
     fn set_line(&mut self, which: u8, state: LineState) -> Result<(), Fault> {
-        if which >= 6 {
-            return Err(Fault::NamesNothing);
-        }
-        let word = put_field(self.register.latched(), 1, which, state.is_on() as u8);
+        within(which, 6)?;
+        let word = put_field(self.register.latched(), 1, which, u8::from(state.is_on()));
         send(&mut self.register, word);
         Ok(())
     }
 
     fn supply(&self, which: u8) -> Result<u8, Fault> {
-        if which >= 2 {
-            return Err(Fault::NamesNothing);
-        }
+        within(which, 2)?;
         Ok(get_field(self.register.latched(), 8, 8 + 8 * which))
     }
 
     fn heater(&self, which: u8) -> Result<bool, Fault> {
-        if which >= 2 {
-            return Err(Fault::NamesNothing);
-        }
+        within(which, 2)?;
         Ok(get_field(self.register.latched(), 1, 6 + which) == 1)
     }
 
     fn line(&self, which: u8) -> Result<LineState, Fault> {
-        if which >= 6 {
-            return Err(Fault::NamesNothing);
-        }
-        Ok(LineState::of(get_field(self.register.latched(), 1, which) == 1))
+        within(which, 6)?;
+        Ok(LineState::from(get_field(self.register.latched(), 1, which) == 1))
     }
 }

@@ -27,11 +27,9 @@ fn partner_line(which: u8) -> u8
     ensures { result ≡ other_line which }
 {
     match which {
-        0 => 1,
-        1 => 0,
         2 => 3,
         3 => 2,
-        _ => which,
+        _ => partner(which),
     }
 }
 

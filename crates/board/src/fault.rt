@@ -1,6 +1,6 @@
 //! What a board refuses.
 ghost use Rattle.std.specs.Prelude.{◌≡◌};
-ghost use Rattle.board.specs.Faults.{report_of};
+ghost use Rattle.board.specs.Faults.{reply, report_of};
 
 use codes::Report;
 use std::fmt;
@@ -11,11 +11,11 @@ pub enum Fault {
     NamesNothing,
 }
 
-impl Fault {
-    pub fn report(self) -> Report
-        ensures { result ≡ report_of self }
-    {
-        match self {
+impl From<Fault> for Report {
+    ghost from_gives = { λ fault report. report ≡ report_of fault };
+
+    fn from(fault: Fault) -> Report {
+        match fault {
             Fault::NamesNothing => Report {
                 layer: 6,
                 code: 0x70,
@@ -28,8 +28,19 @@ impl Fault {
 
 impl fmt::Display for Fault {
     fn fmt<W: fmt::Write>(&self, f: &mut fmt::Formatter<W>) -> fmt::Result {
-        match *self {
-            Fault::NamesNothing => write!(f, "the number names nothing on the board"),
-        }
+        f.write_str(match self {
+            Fault::NamesNothing => "the number names nothing on the board",
+        })
+    }
+}
+
+// Whether a number names one of so many outputs.
+pub(super) fn within(which: u8, many: u8) -> Result<(), Fault>
+    ensures { result ≡ reply which many tt }
+{
+    if which < many {
+        Ok(())
+    } else {
+        Err(Fault::NamesNothing)
     }
 }

@@ -13,16 +13,15 @@ impl LineState {
     pub fn is_on(self) -> bool
         ensures { result ≡ is_on self }
     {
-        match self {
-            LineState::Off => false,
-            LineState::On => true,
-        }
+        matches!(self, LineState::On)
     }
+}
 
-    /// On where `on` is true, else off.
-    pub fn of(on: bool) -> LineState
-        ensures { result ≡ line_of on }
-    {
+/// On where `on` is true, else off.
+impl From<bool> for LineState {
+    ghost from_gives = { λ on state. state ≡ line_of on };
+
+    fn from(on: bool) -> LineState {
         if on { LineState::On } else { LineState::Off }
     }
 }

@@ -5,6 +5,7 @@ ghost use Rattle.board.specs.Meaning.{Leaves, dark};
 use super::{Board, LineState};
 
 /// Sets each of the ten outputs off, once.
+#[tactic(auto, using(crate::proofs::Above::lines_more, crate::proofs::Above::all_dark))]
 pub fn all_off<B: Board>(board: &mut B)
     ensures { Leaves B.means board.old board.new dark }
 {

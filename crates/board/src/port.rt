@@ -7,28 +7,31 @@ ghost use Rattle.board.specs.Meaning.{Leaves, with_supply, with_heater, with_lin
 ghost use Rattle.board.specs.Ports.{ports_of, bytes_of, outputs, supply_port, heater_port, line_port};
 ghost use Rattle.board.specs.PortsLemmas.{port_whole};
 
+use super::fault::within;
 use super::{Board, Fault, LineState};
 
 /// Supplies 0 and 1 have a byte each; bits 0 and 1 of `heaters` are the heaters, bits 0 to 5 of `lines` the lines.
 /// The other bits of those two bytes stay as they were found.
 #[derive(Drop)]
 pub struct PortBoard {
-    supply0: u8,
-    supply1: u8,
+    supplies: [u8; 2],
     heaters: u8,
     lines: u8,
 }
 
+// These two are not the chain board's fields of a word: a byte would have to be widened and, with a proof, cut back.
+
 // `byte` with bit `which` as given.
+#[tactic(auto, using(crate::specs::Put::put_code8, crate::specs::Put::byte_small))]
 fn with_bit(byte: u8, which: u8, on: bool) -> u8
     requires { which < 8 }
     ensures { result ≡ put byte 1 which (bool_byte on) }
 {
-    let mask = 1 << which;
-    if on { byte | mask } else { byte & !mask }
+    (byte & !(1 << which)) | (u8::from(on) << which)
 }
 
 // Bit `which` of `byte`.
+#[tactic(auto, using(std::proofs::lemmas::Nat::and_mask))]
 fn bit(byte: u8, which: u8) -> bool
     requires { which < 8 }
     ensures { result ≡ bit_of byte which }
@@ -43,8 +46,7 @@ impl PortBoard {
     {
         let [supply0, supply1, heaters, lines] = bytes;
         PortBoard {
-            supply0,
-            supply1,
+            supplies: [supply0, supply1],
             heaters,
             lines,
         }
@@ -54,10 +56,12 @@ impl PortBoard {
     pub fn bytes(&self) -> [u8; 4]
         ensures { result ≡ bytes_of self.now }
     {
-        [self.supply0, self.supply1, self.heaters, self.lines]
+        let [supply0, supply1] = self.supplies;
+        [supply0, supply1, self.heaters, self.lines]
     }
 }
 
+#[tactic(auto, using(crate::proofs::KeptAsBits::kept_as_bits))]
 impl Board for PortBoard {
     ghost means = { outputs };
 
@@ -69,11 +73,8 @@ impl Board for PortBoard {
         ensures refused { 2 ≤ which → outputs self.new ≡ outputs self.old }
         ensures ports { self.new ≡ supply_port self.old which set_point }
     {
-        match which {
-            0 => self.supply0 = set_point,
-            1 => self.supply1 = set_point,
-            _ => return Err(Fault::NamesNothing),
-        }
+        within(which, 2)?;
+        self.supplies[usize::from(which)] = set_point;
         Ok(())
     }
 
@@ -83,9 +84,7 @@ impl Board for PortBoard {
         ensures refused { 2 ≤ which → outputs self.new ≡ outputs self.old }
         ensures ports { self.new ≡ heater_port self.old which on }
     {
-        if which >= 2 {
-            return Err(Fault::NamesNothing);
-        }
+        within(which, 2)?;
         self.heaters = with_bit(self.heaters, which, on);
         Ok(())
     }
@@ -96,32 +95,23 @@ impl Board for PortBoard {
         ensures refused { 6 ≤ which → outputs self.new ≡ outputs self.old }
         ensures ports { self.new ≡ line_port self.old which state }
     {
-        if which >= 6 {
-            return Err(Fault::NamesNothing);
-        }
+        within(which, 6)?;
         self.lines = with_bit(self.lines, which, state.is_on());
         Ok(())
     }
 
     fn supply(&self, which: u8) -> Result<u8, Fault> {
-        match which {
-            0 => Ok(self.supply0),
-            1 => Ok(self.supply1),
-            _ => Err(Fault::NamesNothing),
-        }
+        let supply = self.supplies.get(usize::from(which));
+        supply.copied().ok_or(Fault::NamesNothing)
     }
 
     fn heater(&self, which: u8) -> Result<bool, Fault> {
-        if which >= 2 {
-            return Err(Fault::NamesNothing);
-        }
+        within(which, 2)?;
         Ok(bit(self.heaters, which))
     }
 
     fn line(&self, which: u8) -> Result<LineState, Fault> {
-        if which >= 6 {
-            return Err(Fault::NamesNothing);
-        }
-        Ok(LineState::of(bit(self.lines, which)))
+        within(which, 6)?;
+        Ok(LineState::from(bit(self.lines, which)))
     }
 }

@@ -5,7 +5,7 @@ ghost use Rattle.std.specs.Prelude.{◌≡◌, ◌+◌, ◌*◌, ◌%◌, ◌^�
 ghost use mir.Val.{bool_byte};
 ghost use Rattle.board.specs.Shift.{clocked, latch as taken};
 
-#[derive(Drop)]
+#[derive(Default, Drop)]
 pub struct ShiftRegister {
     cells: u32,
     latched: u32,
@@ -17,18 +17,15 @@ impl ShiftRegister {
     pub fn new() -> ShiftRegister
         ensures { result ≡ record { cells = 0; latched = 0; latches = 0 } }
     {
-        ShiftRegister {
-            cells: 0,
-            latched: 0,
-            latches: 0,
-        }
+        ShiftRegister::default()
     }
 
     /// One clock: every cell takes its lower neighbour's bit, and cell 0 the data line's.
+    #[tactic(auto, using(crate::specs::Words::shift_in))]
     pub fn clock(&mut self, bit: bool)
         ensures { self.new ≡ clocked self.old bit }
     {
-        self.cells = (self.cells << 1) | (bit as u32);
+        self.cells = (self.cells << 1) | u32::from(bit);
     }
 
     /// Takes what the cells hold as the latched word, and counts the latch.

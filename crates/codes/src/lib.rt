@@ -5,7 +5,7 @@ use std::fmt;
 
 /// Where a thing went wrong (layer), what it was (code), at which octet, index or check (place), and for which
 /// command (op-code, 0 for none).
-#[derive(Clone, Copy, PartialEq, Eq, Debug)]
+#[derive(Clone, Copy, PartialEq, Eq, Debug, Default)]
 pub struct Report {
     pub layer: u8,
     pub code: u8,
@@ -14,7 +14,7 @@ pub struct Report {
 }
 
 /// A report as it stands in the log, with the head's time at logging.
-#[derive(Clone, Copy, PartialEq, Eq, Debug)]
+#[derive(Clone, Copy, PartialEq, Eq, Debug, Default)]
 pub struct Entry {
     pub time: u32,
     pub report: Report,

@@ -1,4 +1,3 @@
 pub mod Readings
 pub mod Octets
-pub mod Parts
 pub mod RoundTrip

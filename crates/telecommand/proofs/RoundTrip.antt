@@ -46,8 +46,7 @@ frame_back op count ws other h legal =
 cut_back : (b f : List ℕ) (from n : ℕ) → from ≤ length b → length f ≡ n → take n (drop from (take from b ++ f ++ drop (from + n) b)) ≡ f
 cut_back b f from n h l =
     let t : length (take from b) ≡ from = length-take-le from b h in
-    ap (λ (z : List ℕ). take n (drop from z)) (append_assoc (take from b) f (drop (from + n) b))
-    ∙ (ap (take n) (drop_at (take from b) (f ++ drop (from + n) b) from t) ∙ take_at f (drop (from + n) b) n l)
+    rw (append_assoc, drop_at (take from b) (f ++ drop (from + n) b) from t, take_at f (drop (from + n) b) n l)
 
 pub reads_back : (b b' : List ℕ) (from op count : ℕ) (ws : List ℕ) → from ≤ length b → count ≤ 16383
     → b' ≡ after b from (frame_of op ws count) (Ok (8 + 2 * length ws)) → ReadsBack b' from op ws (Ok (8 + 2 * length ws))

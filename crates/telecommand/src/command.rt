@@ -34,7 +34,7 @@ pub enum Command<'a> {
     FireRelease(&'a [u8]),
 }
 
-impl<'a> Command<'a> {
+impl Command<'_> {
     pub fn opcode(&self) -> u16
         ensures { result ≡ (said self.now).opcode }
     {
@@ -55,7 +55,7 @@ impl<'a> Command<'a> {
 }
 
 // The command of an op-code, with its words.
-fn named<'a>(opcode: u16, words: &'a [u8]) -> Command<'a>
+fn named(opcode: u16, words: &[u8]) -> Command<'_>
     requires { Legal opcode words.now }
     ensures { said result ≡ record { opcode = opcode; words = words.now } }
 {
@@ -76,18 +76,16 @@ fn named<'a>(opcode: u16, words: &'a [u8]) -> Command<'a>
 }
 
 // The command that a data field brings.
-fn command_in<'a>(field: &'a [u8]) -> Result<Command<'a>, ReadFault>
+fn command_in(field: &[u8]) -> Result<Command<'_>, ReadFault>
     requires { 2 ≤ length field.now }
     ensures { said_by result ≡ command_of field.now }
 {
     let [high, low, words @ ..] = field else {
         unreachable()
     };
-    let opcode = *high as u16 * 256 + *low as u16;
-    let Some(kind) = kind_of(opcode) else {
-        return Err(ReadFault::UnknownCommand(opcode));
-    };
-    if words.len() != 2 * kind.words as usize {
+    let opcode = u16::from_be_bytes([*high, *low]);
+    let kind = kind_of(opcode).ok_or(ReadFault::UnknownCommand(opcode))?;
+    if words.len() != 2 * usize::from(kind.words) {
         return Err(ReadFault::WordCount(opcode));
     }
     Ok(named(opcode, words))
@@ -97,13 +95,12 @@ fn command_in<'a>(field: &'a [u8]) -> Result<Command<'a>, ReadFault>
 pub fn read<'a>(primary: &'a [u8], redundant: &'a [u8]) -> Result<Command<'a>, ReadFault>
     ensures { said_by result ≡ reads primary.now redundant.now }
 {
-    let field = choose(primary, redundant)?;
-    command_in(field)
+    command_in(choose(primary, redundant)?)
 }
 
-impl<'a> fmt::Display for Command<'a> {
+impl fmt::Display for Command<'_> {
     fn fmt<W: fmt::Write>(&self, f: &mut fmt::Formatter<W>) -> fmt::Result {
-        let name = match *self {
+        f.write_str(match self {
             Command::NoOperation => "no operation",
             Command::Safe => "go to SAFE",
             Command::Checkout => "go to CHECKOUT",
@@ -115,7 +112,6 @@ impl<'a> fmt::Display for Command<'a> {
             Command::SetSupply(_) => "set supply",
             Command::SetHeater(_) => "set heater",
             Command::FireRelease(_) => "fire release",
-        };
-        write!(f, "{name}")
+        })
     }
 }

@@ -27,11 +27,11 @@ pub enum WriteFault {
     NoFrame,
 }
 
-impl ReadFault {
-    pub fn report(self) -> Report
-        ensures { result ≡ read_report self }
-    {
-        match self {
+impl From<ReadFault> for Report {
+    ghost from_gives = { λ fault report. report ≡ read_report fault };
+
+    fn from(fault: ReadFault) -> Report {
+        match fault {
             ReadFault::Length => Report {
                 layer: 1,
                 code: 0x20,
@@ -60,11 +60,11 @@ impl ReadFault {
     }
 }
 
-impl WriteFault {
-    pub fn report(self) -> Report
-        ensures { result ≡ write_report self }
-    {
-        match self {
+impl From<WriteFault> for Report {
+    ghost from_gives = { λ fault report. report ≡ write_report fault };
+
+    fn from(fault: WriteFault) -> Report {
+        match fault {
             WriteFault::PastEnd => Report {
                 layer: 6,
                 code: 0x71,
@@ -103,12 +103,9 @@ impl fmt::Display for ReadFault {
 
 impl fmt::Display for WriteFault {
     fn fmt<W: fmt::Write>(&self, f: &mut fmt::Formatter<W>) -> fmt::Result {
-        match *self {
-            WriteFault::PastEnd => write!(f, "the frame passes the end of the buffer"),
-            WriteFault::NoFrame => write!(
-                f,
-                "no frame has that many words, or that sequence count"
-            ),
-        }
+        f.write_str(match self {
+            WriteFault::PastEnd => "the frame passes the end of the buffer",
+            WriteFault::NoFrame => "no frame has that many words, or that sequence count",
+        })
     }
 }

@@ -83,21 +83,9 @@ const COMMANDS: [Kind; 11] = [
     },
 ];
 
-// The kind of an op-code in a table, or none.
-fn find(table: &[Kind], opcode: u16) -> Option<Kind>
-    ensures { result ≡ kind_in table.now opcode }
-{
-    for kind in table {
-        if kind.opcode == opcode {
-            return Some(*kind);
-        }
-    }
-    None
-}
-
 /// The kind of an op-code, or none where no command has it.
 pub fn kind_of(opcode: u16) -> Option<Kind>
     ensures { result ≡ kind_in commands opcode }
 {
-    find(&COMMANDS, opcode)
+    COMMANDS.iter().find(|kind| kind.opcode == opcode).copied()
 }

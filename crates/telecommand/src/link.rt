@@ -11,14 +11,14 @@ use super::packet::{TELECOMMAND, data_field};
 pub fn choose<'a>(primary: &'a [u8], redundant: &'a [u8]) -> Result<&'a [u8], ReadFault>
     ensures { shown result ≡ chosen primary.now redundant.now }
 {
-    let first = match data_field(primary, TELECOMMAND) {
-        Ok(field) => return Ok(field),
-        Err(fault) => fault,
-    };
-    match data_field(redundant, TELECOMMAND) {
-        Ok(field) => Ok(field),
-        Err(second) => Err(if primary.is_empty() { second } else { first }),
-    }
+    data_field(primary, TELECOMMAND).or_else(|fault| {
+        let field = data_field(redundant, TELECOMMAND);
+        if primary.is_empty() {
+            field
+        } else {
+            field.map_err(|_| fault)
+        }
+    })
 }
 
 /// The fault of a primary that is not empty and was set aside for the redundant, or none.
@@ -28,11 +28,6 @@ pub fn set_aside(primary: &[u8], redundant: &[u8]) -> Option<ReadFault>
     if primary.is_empty() {
         return None;
     }
-    let Err(fault) = data_field(primary, TELECOMMAND) else {
-        return None;
-    };
-    match data_field(redundant, TELECOMMAND) {
-        Ok(_) => Some(fault),
-        Err(_) => None,
-    }
+    let fault = data_field(primary, TELECOMMAND).err()?;
+    data_field(redundant, TELECOMMAND).is_ok().then_some(fault)
 }

@@ -25,7 +25,7 @@ pub(super) fn data_field(link: &[u8], id: PacketId) -> Result<&[u8], ReadFault>
     let [first, second, flags, _, high, low, field @ ..] = link else {
         return Err(ReadFault::Length);
     };
-    let number = *high as usize * 256 + *low as usize;
+    let number = usize::from(u16::from_be_bytes([*high, *low]));
     if link.len() < 8 || link.len() != 7 + number {
         return Err(ReadFault::Length);
     }
@@ -46,12 +46,7 @@ pub(super) fn header(id: PacketId, count: u16, number: u16) -> [u8; 6]
     requires { count ≤ 16383 }
     ensures { result ≡ header_of id.high id.low count number }
 {
-    [
-        id.high,
-        id.low,
-        (0xC0 + count / 256) as u8,
-        (count % 256) as u8,
-        (number / 256) as u8,
-        (number % 256) as u8,
-    ]
+    let [flags, count] = (0xC000 + count).to_be_bytes();
+    let [high, low] = number.to_be_bytes();
+    [id.high, id.low, flags, count, high, low]
 }

@@ -6,23 +6,14 @@ use super::WriteFault;
 use super::packet::{TELECOMMAND, header};
 
 // Puts the words at the start of the part, each high octet first.
+#[tactic(auto, using(crate::proofs::Octets::word_more))]
 fn put_words(part: &mut [u8], words: &[u16])
     requires { 2 * length words.now ≤ length part.old }
     ensures { part.new ≡ octets words.now ++ drop (2 * length words.now) part.old }
 {
     for (i, word) in words.iter().enumerate() {
-        part[2 * i] = (*word / 256) as u8;
-        part[2 * i + 1] = (*word % 256) as u8;
+        part[2 * i..2 * i + 2].copy_from_slice(&word.to_be_bytes());
     }
-}
-
-// Puts a data field at the start of the part: the op-code, then the words.
-fn put_data(part: &mut [u8], opcode: u16, words: &[u16])
-    requires { 2 + 2 * length words.now ≤ length part.old }
-    ensures { part.new ≡ octets (opcode ∷ words.now) ++ drop (2 + 2 * length words.now) part.old }
-{
-    put_words(&mut part[0..2], &[opcode]);
-    put_words(&mut part[2..], words);
 }
 
 // Puts a frame at the start of the part.
@@ -33,8 +24,9 @@ fn put_frame(part: &mut [u8], opcode: u16, words: &[u16], count: u16)
     ensures { part.new ≡ frame_of opcode words.now count ++ drop (8 + 2 * length words.now) part.old }
 {
     let number = 1 + 2 * words.len() as u16;
-    part[0..6].copy_from_slice(&header(TELECOMMAND, count, number));
-    put_data(&mut part[6..], opcode, words);
+    part[..6].copy_from_slice(&header(TELECOMMAND, count, number));
+    part[6..8].copy_from_slice(&opcode.to_be_bytes());
+    put_words(&mut part[8..], words);
 }
 
 /// Puts the frame of an op-code, words and sequence count into the buffer from an octet on, and returns its length.
