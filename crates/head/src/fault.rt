@@ -64,7 +64,7 @@ impl From<Fault> for Report {
     fn from(fault: Fault) -> Report {
         match fault {
             Fault::BothEmpty => gives(1, 0x11, 0, 0),
-            Fault::Unread(fault) => fault.report(),
+            Fault::Unread(fault) => fault.into(),
             Fault::NotInSafe(opcode) => gives(2, 0x23, 6, opcode),
             Fault::CriticalWaits(opcode) => gives(2, 0x24, 6, opcode),
             Fault::WrongConfirm => gives(2, 0x25, 8, 0x6604),

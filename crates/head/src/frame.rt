@@ -158,7 +158,7 @@ impl<B: Board> Head<B> {
             return Err(Fault::BothEmpty);
         }
         if let Some(fault) = set_aside(primary, redundant) {
-            note(log, self.core.meters.time, fault.report());
+            note(log, self.core.meters.time, fault.into());
         }
         match read(primary, redundant) {
             Ok(command) => self.request(command.into(), log),

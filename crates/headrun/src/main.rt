@@ -8,24 +8,13 @@ mod input;
 ghost use Rattle.std.specs.Prelude.{IfSome};
 ghost use Rattle.script.specs.Events.{InRange};
 
-use codes::{Entry, Report};
+use codes::Entry;
 use drive::{bring_line, outcome, power_on, power_on_outcome};
 use head::Records;
 use input::next_line;
 use script::{BadLine, EventLine, count, event_line};
 use std::io;
 use std::io::{BufRead, BufReader, BufWriter, Write};
-
-/// What a slot of the log holds before its first entry.
-const NO_ENTRY: Entry = Entry {
-    time: 0,
-    report: Report {
-        layer: 0,
-        code: 0,
-        place: 0,
-        opcode: 0,
-    },
-};
 
 // The count of events, from the first line.
 fn read_count<R: BufRead>(input: &mut R) -> Option<u16> {
@@ -50,7 +39,7 @@ fn run<R: BufRead, W: Write>(input: &mut R, output: &mut W) -> io::Result<()> {
     let Some(events) = read_count(input) else {
         return writeln!(output, "{}", BadLine { number: 1 });
     };
-    let mut entries = [NO_ENTRY; 8];
+    let mut entries = [Entry::default(); 8];
     let mut slots = [0; 16];
     let mut records = Records::new(&mut entries, &mut slots);
     let mut head = power_on(&mut records);

@@ -78,7 +78,7 @@ fn port_and_chain_agree(rt: HostRuntime) -> Result<(), Fail> {
 // The board refuses to set what its number does not name.
 fn refuses<B: Board>(rt: &impl Abort, board: &mut B, setting: Setting) {
     let refusal = apply(board, setting).err();
-    assert_eq!(rt; refusal.map(|fault| fault.report()), Some(REFUSED));
+    assert_eq!(rt; refusal.map(Report::from), Some(REFUSED));
 }
 
 #[test]

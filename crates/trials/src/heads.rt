@@ -34,7 +34,7 @@ fn mark(raw: u32) -> Mark {
 
 // The mode and the newest log entry of a head in CHECKOUT, after two second marks with the raw counts 0 and `raw`.
 fn after_marks(rt: &impl Abort, raw: u32) -> Result<(Mode, Option<Entry>), Fail> {
-    let mut entries = [entry(0, 0, 0, 0, 0); 2];
+    let mut entries = [Entry::default(); 2];
     let mut slots = [0; 2];
     let mut records = Records::new(&mut entries, &mut slots);
     let mut head = Head::power_on(PortBoard::new([0; 4]), defaults(), &mut records);
@@ -56,7 +56,7 @@ fn a_rate_above_the_limit_trips(rt: HostRuntime) -> Result<(), Fail> {
 
 #[test]
 fn the_log_has_each_entry_in_order(rt: HostRuntime) {
-    let mut entries = [entry(0, 0, 0, 0, 0); 8];
+    let mut entries = [Entry::default(); 8];
     let mut slots = [0; 2];
     let mut records = Records::new(&mut entries, &mut slots);
     let mut steps = [

@@ -54,12 +54,12 @@ fn a_good_frame_is_taken(rt: HostRuntime) -> Result<(), Fail> {
 fn others_are_refused(rt: HostRuntime) {
     for (link, report) in refusals() {
         let refusal = read(link, &[]).err();
-        assert_eq!(rt; refusal.map(|fault| fault.report()), Some(report));
+        assert_eq!(rt; refusal.map(Report::from), Some(report));
     }
 }
 
 fn code_and_place(fault: ReadFault) -> (u8, u16) {
-    let report = fault.report();
+    let report = Report::from(fault);
     (report.code, report.place)
 }
 

@@ -1,4 +1,5 @@
 //! What the writer puts into a buffer, and what it refuses.
+use codes::Report;
 use std::test::Fail;
 use telecommand::{Command, read, write};
 
@@ -6,7 +7,7 @@ use telecommand::{Command, read, write};
 fn code(buffer: &mut [u8], from: usize, words: &[u16], count: u16) -> Option<u8> {
     write(buffer, from, 0x6612, words, count)
         .err()
-        .map(|fault| fault.report().code)
+        .map(|fault| Report::from(fault).code)
 }
 
 #[test]

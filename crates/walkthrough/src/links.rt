@@ -1,6 +1,7 @@
 //! What comes in on the links: frames that are refused, and the command that is taken.
 use super::narration::{paragraph, show_octets};
 use super::stop::Stop;
+use codes::Report;
 use std::alloc::{AllocError, Global};
 use std::io;
 use telecommand::{Command, ReadFault, choose, read, set_aside};
@@ -37,7 +38,7 @@ const TRIALS: [Trial; 5] = [
 
 fn show_fault(rt: &HostRuntime, label: &str, fault: ReadFault) -> io::Result<()> {
     println!(rt; "   {label:<13} {fault}")?;
-    println!(rt; "   report        {}", fault.report())
+    println!(rt; "   report        {}", Report::from(fault))
 }
 
 fn show_trial(rt: &HostRuntime, trial: Trial) -> Result<(), Stop> {

@@ -6,7 +6,7 @@ use super::stop::Stop;
 use super::table::{headline, row, show_log};
 use super::uplink::Frames;
 use board::{Crossed, PortBoard};
-use codes::{Entry, Report};
+use codes::Entry;
 use head::{Head, Records, defaults};
 use interlock::{Event, Shown, Step, bring, operate};
 use std::io;
@@ -18,17 +18,6 @@ const FOUND: [u8; 4] = [0x28, 0x05, 0b0000_0010, 0b1010_0001];
 
 // The parameter that says whether SAFE closes the door: 0 or 1.
 const CLOSE_ON_SAFE: usize = 24;
-
-// What a slot of the log holds before its first entry.
-const NO_ENTRY: Entry = Entry {
-    time: 0,
-    report: Report {
-        layer: 0,
-        code: 0,
-        place: 0,
-        opcode: 0,
-    },
-};
 
 // How many events are brought at a time. The closing door takes nine times as many ticks.
 const SLICE: usize = 40;
@@ -145,7 +134,7 @@ pub fn operate_head(rt: &HostRuntime) -> Result<(), Stop> {
     let frames = Frames::written(rt.alloc())?;
     let planned = plan(&frames);
     let mut steps = planned.map(|plan| Step::new(plan.event));
-    let mut entries = [NO_ENTRY; 8];
+    let mut entries = [Entry::default(); 8];
     let mut slots = [0; 4];
     let mut records = Records::new(&mut entries, &mut slots);
     let mut head = operate(harnessed(), stored(), &mut steps, &mut records);
