@@ -31,8 +31,8 @@ pub test_byte : (n : ℕ) → bool_byte (bit_and n 1 == 1) ≡ n % 2
 test_byte n = rw (and_mask n 1) (digit_byte (n % 2) (omega arith))
 
 -- after one clock more, the low cells hold one bit more of the word
-pub shift_more : (x w k b : ℕ) → 0 < k → k ≤ 32 → b ≡ w / 2 ^ (k - 1) % 2 → x % 2 ^ (32 - k) ≡ w / 2 ^ k → ((x * 2) % 2 ^ 32 + b) % 2 ^ (32 - (k - 1)) ≡ w / 2 ^ (k - 1)
-shift_more x w k b h l e inv =
+pub shift_down : (x w k b : ℕ) → 0 < k → k ≤ 32 → b ≡ w / 2 ^ (k - 1) % 2 → x % 2 ^ (32 - k) ≡ w / 2 ^ k → ((x * 2) % 2 ^ 32 + b) % 2 ^ (32 - (k - 1)) ≡ w / 2 ^ (k - 1)
+shift_down x w k b h l e inv =
     let i = 32 - k in
     let q = w / 2 ^ (k - 1) in
     let n = (x * 2) % 2 ^ 32 + b in

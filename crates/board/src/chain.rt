@@ -39,7 +39,7 @@ fn get_field(word: u32, width: u8, at: u8) -> u8
 }
 
 // Brings a word across: 32 clocks, highest bit first, and one latch.
-#[tactic(auto, using(crate::specs::Words::shift_more, crate::specs::Words::shift_below, crate::specs::Words::test_byte))]
+#[tactic(auto, using(crate::specs::Words::shift_down, crate::specs::Words::shift_below, crate::specs::Words::test_byte))]
 fn send(register: &mut ShiftRegister, word: u32)
     ensures { register.new ≡ sent register.old word }
 {
