@@ -1,10 +1,10 @@
 //! The checks on what a sample brings, and the checks by their numbers. Nothing else opens this arithmetic.
 ghost use Rattle.std.specs.Prelude.{◌≡◌, ◌+◌, ◌<◌, max};
-ghost use Rattle.head.specs.Checks.{bit, number_of, expected, plate_out, strip_out, anode_out, counted as counted_by, reached, rate_at, rate as rate_of, rate_trips, warm, sensors_trip, lowest as lowest_of};
+ghost use Rattle.head.specs.Checks.{bit, number_of, expected, plate_out, strip_out, anode_out, counted as counted_by, masked, reached, rate_at, rate as rate_of, rate_trips, warm, sensors_trip, lowest as lowest_of};
 
 use super::parameters::{
-    CHECK_MASK, COUNT_RATE, LARGEST_ANODE, LARGEST_SET_POINT, LARGEST_STRIP, LEAST_ANODE,
-    NOMINAL_LEVEL, PLATE_TOLERANCE, READ_BACK_FACTOR, SENSOR_LIMITS, SENSOR_MASK,
+    CHECK_MASK, COUNT_RATE, FAILURE_LIMITS, LARGEST_ANODE, LARGEST_SET_POINT, LARGEST_STRIP,
+    LEAST_ANODE, NOMINAL_LEVEL, PLATE_TOLERANCE, READ_BACK_FACTOR, SENSOR_LIMITS, SENSOR_MASK,
 };
 
 /// The five checks, in the order of their numbers.
@@ -88,13 +88,20 @@ pub(super) fn counted(out: bool, count: u8) -> u8
     if out { count.saturating_add(1) } else { 0 }
 }
 
-// Whether check `c`, one of the first three, trips at a count.
+// Whether a check is masked, by its bit of the check mask.
 #[tactic(auto, unfolding(crate::specs::Checks::masked))]
-pub(super) fn trips(parameters: &[u8; 25], c: usize, count: u8) -> bool
-    requires { c < 3 }
-    ensures { result ≡ reached parameters.now c count }
+fn is_masked(parameters: &[u8; 25], check: Check) -> bool
+    ensures { result ≡ masked parameters.now (number_of check) }
 {
-    !bit_of(parameters[CHECK_MASK], c) && count >= parameters[7 + c]
+    bit_of(parameters[CHECK_MASK], usize::from(check.number()))
+}
+
+// Whether a check, one of the first three, trips at a count.
+pub(super) fn trips(parameters: &[u8; 25], check: Check, count: u8) -> bool
+    ensures { result ≡ reached parameters.now (number_of check) count }
+{
+    !is_masked(parameters, check)
+        && count >= parameters[FAILURE_LIMITS + usize::from(check.number())]
 }
 
 // The count rate, from the raw count before, if any, and this one.
@@ -114,11 +121,10 @@ fn rate_between(before: u32, raw: u32) -> u16
 }
 
 // Whether check 3 trips at a rate.
-#[tactic(auto, unfolding(crate::specs::Checks::masked))]
 pub(super) fn rate_trips(parameters: &[u8; 25], rate: u16) -> bool
     ensures { result ≡ rate_trips parameters.now rate }
 {
-    !bit_of(parameters[CHECK_MASK], 3) && rate > 256 * u16::from(parameters[COUNT_RATE])
+    !is_masked(parameters, Check::Rate) && rate > 256 * u16::from(parameters[COUNT_RATE])
 }
 
 // Whether any sensor that is not masked is above its limit.
@@ -134,11 +140,10 @@ fn any_warm(parameters: &[u8; 25], temperatures: [u8; 8]) -> bool
 }
 
 // Whether check 4 trips at these temperatures.
-#[tactic(auto, unfolding(crate::specs::Checks::masked))]
 pub(super) fn sensors_trip(parameters: &[u8; 25], temperatures: [u8; 8]) -> bool
     ensures { result ≡ sensors_trip parameters.now temperatures }
 {
-    !bit_of(parameters[CHECK_MASK], 4) && any_warm(parameters, temperatures)
+    !is_masked(parameters, Check::Temperature) && any_warm(parameters, temperatures)
 }
 
 // The lowest of the five checks that trips, where `tripped` says it of each.

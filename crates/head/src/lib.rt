@@ -64,7 +64,7 @@ pub type Drive = Timed<u8>;
 
 /// What the head counts: seconds, ticks of the second, seconds of safety, failures of each check; and the raw count
 /// of the latest second mark.
-#[derive(Clone, Copy)]
+#[derive(Clone, Copy, Default)]
 pub struct Meters {
     time: u32,
     tick: u8,

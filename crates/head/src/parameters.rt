@@ -16,6 +16,9 @@ pub(super) const LARGEST_ANODE: usize = 5;
 
 pub(super) const READ_BACK_FACTOR: usize = 6;
 
+/// The failures in a row at which checks 0, 1 and 2 trip stand from here on.
+pub(super) const FAILURE_LIMITS: usize = 7;
+
 pub(super) const COUNT_RATE: usize = 10;
 
 pub(super) const SENSOR_LIMITS: usize = 11;

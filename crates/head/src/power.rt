@@ -45,22 +45,18 @@ fn restore_all(stored: [u8; 25], log: &mut Ring<Entry>) -> [u8; 25]
 impl<B: Board> Head<B> {
     /// A head on a board, from 25 stored parameters: everything off, in SAFE. The log and the rates are emptied; a
     /// stored parameter outside its range becomes its default, with a note.
-    pub fn power_on(board: B, stored: [u8; 25], records: &mut Records) -> Head<B>
+    pub fn power_on(mut board: B, stored: [u8; 25], records: &mut Records) -> Head<B>
         ensures became { state_of B.means result ≡ powered_on stored }
         ensures noted { records.new.log ≡ restored_log 25 stored (emptied records.old.log) }
         ensures rates { records.new.rates ≡ emptied records.old.rates }
     {
-        let mut board = board;
         all_off(&mut board);
         records.log.clear();
         records.rates.clear();
         let parameters = restore_all(stored, &mut records.log);
         let meters = Meters {
             time: START,
-            tick: 0,
-            timer: 0,
-            counts: [0; 3],
-            last: None,
+            ..Meters::default()
         };
         let core = Core {
             mode: Mode::Safe,

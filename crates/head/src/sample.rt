@@ -19,9 +19,9 @@ impl Core {
     fn count_trip(&self) -> Option<Check>
         ensures { result ≡ lowest_of (count_trips self.now.parameters self.now.meters.counts) }
     {
-        let plate = trips(&self.parameters, 0, self.meters.counts[0]);
-        let strip = trips(&self.parameters, 1, self.meters.counts[1]);
-        let anode = trips(&self.parameters, 2, self.meters.counts[2]);
+        let plate = trips(&self.parameters, Check::Plate, self.meters.counts[0]);
+        let strip = trips(&self.parameters, Check::Strip, self.meters.counts[1]);
+        let anode = trips(&self.parameters, Check::Anode, self.meters.counts[2]);
         lowest([plate, strip, anode, false, false])
     }
 }
