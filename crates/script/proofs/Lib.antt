@@ -1,6 +1,6 @@
 pub mod Numerals
 pub mod Fields
-pub mod Buffers
+pub mod Chunks
 pub mod Brought
 pub mod Digits
 pub mod Sums

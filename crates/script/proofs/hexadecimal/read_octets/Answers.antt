@@ -1,52 +1,45 @@
-use Rattle.std.proofs.Common.{◌≡◌, ◌-◌, ◌*◌, ◌/◌, ◌≤◌, length, take, drop, replicate, sym, ap, ◌∙◌, arith, length-set}
-use Rattle.std.proofs.ByRecursion.{All-set}
-use Rattle.std.proofs.lemmas.List.{take_all}
-use Rattle.script.specs.Hex.{hex}
-use Rattle.script.proofs.Digits.{hex_more, rest_more, counted, none_at}
+use Rattle.std.proofs.Common.{◌≡◌, ◌%◌, [], ◌∷◌, length, not, sym, ap, ◌∙◌, arith, length-append}
+use Rattle.std.proofs.lemmas.List.{length-map, length-take, take_all}
+use Rattle.std.proofs.lemmas.Result.{IfOk-at_ok, MatchResult-at_err}
+use Rattle.std.specs.Result.{is_ok}
+use Rattle.std.proofs.ByRecursion.{All-push}
+use Rattle.script.specs.Hex.{octet_text}
+use Rattle.script.proofs.Digits.{length_hex, one_more, pair, as_many, each, filled}
+use Rattle.script.proofs.Numerals.{ok_of, err_of}
 use Rattle.script.proofs.hexadecimal.read_octets.Goals as goal
-use Rattle.script.proofs.hexadecimal.read_octets.Goals.{then-text-eq0-via-then-text-eq0, then-text-eq0-via-else-text-eq0+then-text-gt128, then-text-eq0-via-else-text-eq0+else-text-gt128+then-text-ne0}
-
-pub returns-then-text-eq0 : goal.returns-then-text-eq0
-returns-then-text-eq0 c o h e =
-    let n = counted o c.args.text.now h e in
-    elim c.then-text-eq0.branch [
-      | then-text-eq0-via-then-text-eq0 w ↦ omega (arith, n.0, n.1, w.if-text-eq0.true)
-      | then-text-eq0-via-else-text-eq0+then-text-gt128 w ↦ omega (arith, n.0, n.2, w.if-text-gt128.true)
-      | then-text-eq0-via-else-text-eq0+else-text-gt128+then-text-ne0 w ↦ omega (arith, n.0, w.if-text-ne0.true)
-    ]
 
 pub returns-in_default : goal.returns-in_default
-returns-in_default c o h e = none_at o c.args.text.now c.loop-i.i (omega arith) c.in_default.ensures h e
+returns-in_default c o h e = omega (arith, c.in_default.len_at_least, c.as_chunks.ensures.back_len, length_hex o.items, ap length e)
 
-pub loop-i-preserved : goal.loop-i-preserved
-loop-i-preserved c =
-    let i = c.loop-i.i in
-    let bytes = c.loop-i.bytes in
-    let inv = c.loop-i.invariant in
-    let got = c.in-Some.ensures in
-    let v = c.in-Some.value in (
-      length-set bytes i v ∙ inv.0,
-      All-set (λ b. b ≤ 255) bytes i v got.0 inv.1,
-      rest_more bytes i v 64 inv.2,
-      hex_more bytes c.args.text.now i v (omega arith) (omega arith) inv.3 got.1,
+pub returns-in_err-octet : goal.returns-in_err-octet
+returns-in_err-octet c =
+    let even : length c.args.text.now % 2 ≡ 0 = omega (arith, c.in_default-empty.len_below, c.as_chunks.ensures.back_len) in
+    rw c.from_residual.ensures (λ o h e.
+    let m = each c.args.text.now c.as_chunks.result.0.now c.as_chunks.ensures.front even o.items e c.loop-high.high-index c.loop-high-test.true h.0.small in
+    c.in_err-octet.ensures m.0 m.1 (m.2 ∙ sym (pair c.args.text.now c.as_chunks.result.0.now c.as_chunks.ensures.front even c.loop-high.high-index (omega (arith, c.as_chunks.ensures.front_len)))))
+
+pub returns-in_err-ok : goal.returns-in_err-ok
+returns-in_err-ok c =
+    let even : length c.args.text.now % 2 ≡ 0 = omega (arith, c.in_default-empty.len_below, c.as_chunks.ensures.back_len) in
+    let err = err_of c.try_push.result (sym c.ok.ensures.value ∙ c.in_err-ok.was) in
+    let full = MatchResult-at_err _ _ err.0 err.1 c.try_push.ensures.full in
+    let same = ap length c.loop-high.invariant.0 in
+    rw c.from_residual-in_err-ok.ensures (λ o h e.
+    omega (arith, c.loop-high-test.true, full, simp (length-map, length-take) at same, as_many c.args.text.now c.as_chunks.result.0.now c.as_chunks.ensures.front even o.items e, h.0.few))
+
+pub loop-high-preserved : goal.loop-high-preserved
+loop-high-preserved c =
+    let even : length c.args.text.now % 2 ≡ 0 = omega (arith, c.in_default-empty.len_below, c.as_chunks.ensures.back_len) in
+    let digits = c.in_ok-octet.ensures.1 ∙ pair c.args.text.now c.as_chunks.result.0.now c.as_chunks.ensures.front even c.loop-high.high-index (omega (arith, c.as_chunks.ensures.front_len)) in
+    let ok = ok_of c.try_push.result c.in_ok-ok.field-0 (sym c.ok.ensures.value ∙ c.in_ok-ok.was) in
+    rw (IfOk-at_ok _ ok c.try_push.ensures.ok) (
+      one_more c.as_chunks.result.0.now c.loop-high.octets.items c.loop-high.high-index c.in_ok-octet.field-0 c.loop-high-test.true c.loop-high.invariant.0 digits,
+      All-push _ _ _ c.loop-high.invariant.1 c.in_ok-octet.ensures.0,
+      omega (arith, c.try_push.ensures.variant.0 (ap is_ok ok), length-append c.loop-high.octets.items (c.in_ok-octet.field-0 ∷ [])),
     )
 
 pub returns : goal.returns
 returns c =
-    let i = c.loop-i.i in
-    let text = c.args.text.now in
-    let bytes = c.loop-i.bytes in
-    let inv = c.loop-i.invariant in
-    let s : i ≡ length text / 2 = omega arith in
-    let all = take_all (2 * i) text (omega arith) in (
-      (
-        record {
-          room = inv.0;
-          few = omega arith;
-          small = inv.1;
-          rest = ap (λ n. drop n bytes) (sym s) ∙ inv.2 ∙ ap (λ n. replicate (64 - n) 0) s;
-        },
-        omega arith,
-      ),
-      ap (λ n. hex (take n bytes)) (sym s) ∙ inv.3 ∙ all,
-    )
+    let even : length c.args.text.now % 2 ≡ 0 = omega (arith, c.in_default-empty.len_below, c.as_chunks.ensures.back_len) in
+    let all = take_all c.loop-high.high-index c.as_chunks.result.0.now c.loop-high-test.false in
+    rw c.then_some.ensures (filled c.args.text.now c.as_chunks.result.0.now c.as_chunks.ensures.front even c.loop-high.octets _ (c.loop-high.invariant.0 ∙ all) c.loop-high.invariant.1 c.loop-high.invariant.2 (ap not c.is_empty.ensures))
