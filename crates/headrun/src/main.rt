@@ -29,20 +29,14 @@ const NO_ENTRY: Entry = Entry {
 
 // The count of events, from the first line.
 fn read_count<R: BufRead>(input: &mut R) -> Option<u16> {
-    match next_line(input).text() {
-        Some(text) => count(text),
-        None => None,
-    }
+    next_line(input).text().and_then(|text| count(text))
 }
 
 // The event of the next line.
 fn read_event<R: BufRead>(input: &mut R) -> Option<EventLine>
     ensures { IfSome result InRange }
 {
-    match next_line(input).text() {
-        Some(text) => event_line(text),
-        None => None,
-    }
+    next_line(input).text().and_then(|text| event_line(text))
 }
 
 // Runs a script to its end, or to its first bad line.
@@ -56,9 +50,9 @@ fn run<R: BufRead, W: Write>(input: &mut R, output: &mut W) -> io::Result<()> {
     let mut rates = Ring::new(&mut slots);
     let mut head = power_on(&mut log, &mut rates);
     writeln!(output, "{}", power_on_outcome(&head))?;
-    for n in 0..u32::from(events) {
+    for number in 2..u32::from(events) + 2 {
         let Some(line) = read_event(input) else {
-            return writeln!(output, "{}", BadLine { number: n + 2 });
+            return writeln!(output, "{}", BadLine { number });
         };
         let shown = bring_line(&mut head, &line, &mut log, &mut rates);
         writeln!(output, "{}", outcome(line.kind(), shown))?;

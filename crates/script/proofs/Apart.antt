@@ -1,6 +1,8 @@
 -- Values with one text are one value.
-use Rattle.std.proofs.Common.{◌≡◌, ℕ, suc, ◌-◌, ◌/◌, ◌%◌, ◌^◌, ◌<◌, ◌≤◌, List, [], ◌∷◌, ◌++◌, map, eqb, length, get_or, take, drop, replicate, Some, None, decimal, Option, sym, refl, ap, ◌∙◌, arith, length-append, Bor}
+use Rattle.std.proofs.Common.{◌≡◌, ℕ, ◌/◌, ◌%◌, ◌<◌, ◌≤◌, List, [], ◌∷◌, ◌++◌, map, eqb, length, get_or, take, drop, Some, None, IsUtf8, decimal, Option, Result, MatchResult, sym, refl, ap, ◌∙◌, arith, length-append, Bor}
 use Rattle.std.specs.List.{slice_split}
+use Rattle.std.specs.Result.{result_ok}
+use Rattle.std.proofs.lemmas.Result.{MatchResult-at_ok}
 use Rattle.std.proofs.lemmas.Fmt.{decimal_injective}
 use Rattle.std.proofs.lemmas.List.{take_at, drop_at}
 use Rattle.std.proofs.lemmas.Str.Pattern.{IsSplitOnceResult}
@@ -8,13 +10,14 @@ use Rattle.std.proofs.lemmas.Bool.Decides.{nat_tests}
 use Rattle.head.specs.declared.checks.Mark.{Mark}
 use Rattle.head.specs.declared.checks.Sample.{Sample}
 use Rattle.script.specs.Events.{letter_of, frame_field, fields_of, text_of, sample_bytes, SixBytes, MarkFits, InRange, Of, Only}
-use Rattle.script.specs.Hex.{hex_digit, hex, Sound}
+use Rattle.script.specs.Hex.{hex_digit, hex}
 use Rattle.script.specs.Numbers.{spaced, Bytes}
 use Rattle.script.specs.Reading.{Reads}
 use Rattle.script.specs.declared.event.EventLine.{EventLine}
 use Rattle.script.specs.declared.event.EventLine.TheVariants.{Frame, Ticks, Sample as Sampled, Second}
 use Rattle.script.specs.declared.outcome.Kind.{Kind}
 use Rattle.script.proofs.Brought.{cut_line, line_reads}
+use Rattle.script.proofs.Numerals.{ok_of}
 use Rattle.script.proofs.Fields.{Small, wider, pieces}
 
 decimals_apart : (ms ns : List ℕ) → Small ms → Small ns → map decimal ms ≡ map decimal ns → ms ≡ ns
@@ -102,9 +105,11 @@ only : (text : List ℕ) (r : Option EventLine) → Reads InRange text_of text r
 only text None h = tt
 only text (Some x) h = λ y k e. told_apart y x k h.0 (e ∙ sym h.1)
 
--- a line by its first space, its letter and its fields
-pub read_line : (k : Kind) (line text : List ℕ) (p : Option (Bor (List ℕ) × Bor (List ℕ))) (l f : Bor (List ℕ)) (r : Option EventLine) →
-    text ≡ line → IsSplitOnceResult 32 text p → p ≡ Some (l, f) → l.now ≡ letter_of k ∷ [] → Reads (Of k) fields_of f.now r → Reads InRange text_of line r × Only line r
-read_line k line text p l f r same h e is got =
-    let all = line_reads k line l.now f.now r (cut_line line text p l f same h e) is got in
+-- a line that is text, by its first space, its letter and its fields
+pub read_line : {E : Type 0} (Q : E → Type 0) (k : Kind) (line : List ℕ) (u : Result (Bor (List ℕ)) E) (t : Bor (List ℕ)) (p : Option (Bor (List ℕ) × Bor (List ℕ))) (l f : Bor (List ℕ)) (r : Option EventLine) →
+    MatchResult u (λ s. (s.now ≡ line) × IsUtf8 line) Q → result_ok u ≡ Some t → IsSplitOnceResult 32 t.now p → p ≡ Some (l, f) → l.now ≡ letter_of k ∷ [] → Reads (Of k) fields_of f.now r →
+    Reads InRange text_of line r × Only line r
+read_line Q k line u t p l f r text ok h e is got =
+    let same = MatchResult-at_ok _ _ t (ok_of u t ok) text in
+    let all = line_reads k line l.now f.now r (cut_line line t.now p l f same.0 h e) is got in
     (all, only line r all)

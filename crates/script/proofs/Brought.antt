@@ -1,5 +1,5 @@
 -- What an event line brings, from its fields.
-use Rattle.std.proofs.Common.{◌≡◌, ℕ, zero, suc, ◌/◌, ◌%◌, ◌^◌, ◌<◌, ◌≤◌, Bool, true, false, not, eqb, List, [], ◌∷◌, ◌++◌, length, get_or, Some, None, IsAscii, decimal, Option, sym, refl, ap, ◌∙◌, arith, lit<, length-append, Bor, MatchOption}
+use Rattle.std.proofs.Common.{◌≡◌, ℕ, zero, suc, ◌/◌, ◌%◌, ◌<◌, ◌≤◌, Bool, true, false, not, eqb, List, [], ◌∷◌, ◌++◌, length, get_or, Some, None, IsAscii, decimal, Option, sym, refl, ap, ◌∙◌, arith, lit<, Bor, MatchOption}
 use Rattle.std.specs.Bool.{then_some}
 use Rattle.std.proofs.lemmas.Str.Ascii.{IsAscii-nil, IsAscii-cons}
 use Rattle.std.proofs.lemmas.Fmt.{decimal_injective, IsAscii-decimal}
@@ -8,7 +8,6 @@ use Rattle.std.proofs.lemmas.Option.{MatchOption-at_some}
 use Rattle.std.proofs.lemmas.Str.{IsAscii-append}
 use Rattle.std.proofs.lemmas.Bool.Decides.{nat_tests}
 use Rattle.head.specs.declared.checks.Mark.{Mark}
-use Rattle.head.specs.declared.checks.Sample.{Sample}
 use Rattle.script.specs.Events.{letter_of, kind_of, frame_field, fields_of, text_of, sample_bytes, MarkFits, InRange, Of}
 use Rattle.script.specs.Hex.{hex_digit, hex}
 use Rattle.script.specs.Numbers.{spaced, Bytes}

@@ -1,11 +1,11 @@
 -- Octets and their digits.
-use Rattle.std.proofs.Common.{◌≡◌, ℕ, zero, suc, ◌+◌, ◌*◌, ◌/◌, ◌%◌, ◌<◌, ◌≤◌, Bool, true, false, not, eqb, List, [], ◌∷◌, ◌++◌, map, length, get_or, take, drop, sym, refl, ap, ◌∙◌, arith, length-drop}
+use Rattle.std.proofs.Common.{◌≡◌, ℕ, zero, suc, ◌*◌, ◌/◌, ◌%◌, ◌<◌, ◌≤◌, Bool, true, false, not, eqb, List, [], ◌∷◌, ◌++◌, map, length, get_or, take, drop, sym, refl, ap, ◌∙◌, arith, length-drop}
 use Rattle.std.specs.Bool.{then_some}
 use Rattle.std.specs.List.{concat}
 use Rattle.std.specs.Simd.{first_chunks}
 use Rattle.std.proofs.ByRecursion.{All-get_or}
 use Rattle.std.proofs.lemmas.Bool.Decides.{nat_tests}
-use Rattle.std.proofs.lemmas.List.{get_or-map, length-map, map-append, take_more, take-append-drop}
+use Rattle.std.proofs.lemmas.List.{get_or-map, length-map, take-append-drop}
 use Rattle.arrayvec.specs.ArrayVec.{ArrayVec, array_vec_len}
 use Rattle.script.specs.Hex.{octet_text, hex, Filling}
 use Rattle.script.specs.Numbers.{Bytes}
@@ -38,18 +38,9 @@ two (suc n) zero (a ∷ []) h l = let z : ⊥ = omega arith in absurd z
 two (suc n) zero (a ∷ b ∷ text) h l = refl
 two (suc n) (suc i) text h l = two n i (drop 2 text) (omega arith) (omega (arith, length-drop 2 text))
 
--- one octet more has one pair more
-pub one_more : (pairs : List (List ℕ)) (bs : List ℕ) (i b : ℕ) → i < length pairs → map octet_text bs ≡ take i pairs → octet_text b ≡ get_or pairs i [] →
-    map octet_text (bs ++ b ∷ []) ≡ take (i + 1) pairs
-one_more pairs bs i b h e f =
-    map-append octet_text bs (b ∷ [])
-    ∙ ap (λ (l : List (List ℕ)). l ++ octet_text b ∷ []) e
-    ∙ ap (λ (p : List ℕ). take i pairs ++ p ∷ []) f
-    ∙ sym (take_more pairs i [] h)
-
 -- the pairs of a text with an even number of digits
-module _ (text : List ℕ) (pairs : List (List ℕ)) (is : pairs ≡ first_chunks 2 (length text / 2) text) (even : length text % 2 ≡ 0) where
-  pub pair : (i : ℕ) → i < length text / 2 → get_or (get_or pairs i []) 0 0 ∷ get_or (get_or pairs i []) 1 0 ∷ [] ≡ get_or pairs i []
+module _ (text rest : List ℕ) (pairs : List (List ℕ)) (is : pairs ≡ first_chunks 2 (length text / 2) text) (left : length rest ≡ length text % 2) (none : length rest < 1) where
+  pair : (i : ℕ) → i < length text / 2 → get_or (get_or pairs i []) 0 0 ∷ get_or (get_or pairs i []) 1 0 ∷ [] ≡ get_or pairs i []
   pair i h = rw is (two (length text / 2) i text h (omega arith))
 
   module _ (bs : List ℕ) (e : hex bs ≡ text) where
@@ -63,10 +54,11 @@ module _ (text : List ℕ) (pairs : List (List ℕ)) (is : pairs ≡ first_chunk
     as_many = ap length cut_into ∙ length-map bs octet_text
 
     -- and each pair is the digits of an octet
-    pub each : (i : ℕ) → i < length pairs → Bytes bs → (m : ℕ) × (m ≤ 255) × (octet_text m ≡ get_or pairs i [])
+    pub each : (i : ℕ) → i < length pairs → Bytes bs → (m : ℕ) × (m ≤ 255) × (octet_text m ≡ get_or (get_or pairs i []) 0 0 ∷ get_or (get_or pairs i []) 1 0 ∷ [])
     each i h small =
         let in' : i < length bs = omega (arith, as_many) in
-        (get_or bs i 0, All-get_or (λ b. b ≤ 255) bs i 0 in' small, sym (ap (λ (ps : List (List ℕ)). get_or ps i []) cut_into ∙ get_or-map octet_text bs i 0 [] in'))
+        let same : get_or pairs i [] ≡ octet_text (get_or bs i 0) = ap (λ (ps : List (List ℕ)). get_or ps i []) cut_into ∙ get_or-map octet_text bs i 0 [] in' in
+        (get_or bs i 0, All-get_or (λ b. b ≤ 255) bs i 0 in' small, sym same ∙ sym (pair i (omega (arith, as_many, length_hex bs, ap length e))))
 
   -- octets whose digits are the pairs, if there are any
   pub filled : (o : ArrayVec ℕ) (some : Bool) → map octet_text o.items ≡ pairs → Bytes o.items → array_vec_len o ≤ 64 → some ≡ not (eqb (array_vec_len o) 0) →

@@ -4,5 +4,4 @@ pub mod Chunks
 pub mod Brought
 pub mod Digits
 pub mod Sums
-pub mod Printed
 pub mod Apart

@@ -36,7 +36,7 @@ impl LineBuffer {
         }
     }
 
-    // More bytes, while there is room for them.
+    // More bytes, or no line where they do not fit.
     fn extend(&mut self, more: &[u8])
         ensures { self.new ≡ onto self.old more.now }
     {

@@ -1,11 +1,11 @@
 use Rattle.std.proofs.Common.{IsUtf8, sym, ◌∙◌, subst}
 use Rattle.std.proofs.lemmas.Str.{IsUtf8-from_ascii}
-use Rattle.std.proofs.lemmas.Result.{MatchResult-at_ok, MatchResult-at_err}
+use Rattle.std.proofs.lemmas.Result.{MatchResult-at_err}
 use Rattle.script.specs.Events.{text_of}
 use Rattle.script.specs.declared.outcome.Kind.TheVariants.{Frame as OfFrame, Ticks as OfTicks, Sample as OfSample, Second as OfSecond}
 use Rattle.script.proofs.Apart.{read_line}
-use Rattle.script.proofs.Brought.{text_ascii, split_letter, other_letter}
-use Rattle.script.proofs.Numerals.{ok_of, err_of}
+use Rattle.script.proofs.Brought.{text_ascii}
+use Rattle.script.proofs.Numerals.{err_of}
 use Rattle.script.proofs.event.event_line.Goals as goal
 
 pub returns-in_err-ok-clause-reads : goal.returns-in_err-ok-clause-reads
@@ -16,28 +16,24 @@ returns-in_err-ok-clause-reads c = rw c.from_residual.ensures (λ x h e.
 
 pub returns-in-F : goal.returns-in-F
 returns-in-F c =
-    let text = MatchResult-at_ok _ _ c.in_ok-ok.field-0 (ok_of c.from_utf8.result c.in_ok-ok.field-0 (sym c.ok.ensures.value ∙ c.in_ok-ok.was)) c.from_utf8.ensures.cases in
-    let got = read_line OfFrame c.args.line.now c.in_ok-ok.field-0.now c.split_once.result c.in_ok-letter.letter c.in_ok-letter.fields c.frame.result
-    text.0 c.split_once.ensures.cases c.in_ok-letter.was c.in-F.is c.frame.ensures in
+    let got = read_line _ OfFrame c.args.line.now c.from_utf8.result c.in_ok-ok.field-0 c.split_once.result c.in_ok-letter.letter c.in_ok-letter.fields c.frame.result
+    c.from_utf8.ensures.cases (sym c.ok.ensures.value ∙ c.in_ok-ok.was) c.split_once.ensures.cases c.in_ok-letter.was c.in-F.is c.frame.ensures in
     record { reads = got.0; only = got.1 }
 
 pub returns-in-T : goal.returns-in-T
 returns-in-T c =
-    let text = MatchResult-at_ok _ _ c.in_ok-ok.field-0 (ok_of c.from_utf8.result c.in_ok-ok.field-0 (sym c.ok.ensures.value ∙ c.in_ok-ok.was)) c.from_utf8.ensures.cases in
-    let got = read_line OfTicks c.args.line.now c.in_ok-ok.field-0.now c.split_once.result c.in_ok-letter.letter c.in_ok-letter.fields c.ticks.result
-    text.0 c.split_once.ensures.cases c.in_ok-letter.was c.in-T.is c.ticks.ensures in
+    let got = read_line _ OfTicks c.args.line.now c.from_utf8.result c.in_ok-ok.field-0 c.split_once.result c.in_ok-letter.letter c.in_ok-letter.fields c.ticks.result
+    c.from_utf8.ensures.cases (sym c.ok.ensures.value ∙ c.in_ok-ok.was) c.split_once.ensures.cases c.in_ok-letter.was c.in-T.is c.ticks.ensures in
     record { reads = got.0; only = got.1 }
 
 pub returns-in-H : goal.returns-in-H
 returns-in-H c =
-    let text = MatchResult-at_ok _ _ c.in_ok-ok.field-0 (ok_of c.from_utf8.result c.in_ok-ok.field-0 (sym c.ok.ensures.value ∙ c.in_ok-ok.was)) c.from_utf8.ensures.cases in
-    let got = read_line OfSample c.args.line.now c.in_ok-ok.field-0.now c.split_once.result c.in_ok-letter.letter c.in_ok-letter.fields c.sample.result
-    text.0 c.split_once.ensures.cases c.in_ok-letter.was c.in-H.is c.sample.ensures in
+    let got = read_line _ OfSample c.args.line.now c.from_utf8.result c.in_ok-ok.field-0 c.split_once.result c.in_ok-letter.letter c.in_ok-letter.fields c.sample.result
+    c.from_utf8.ensures.cases (sym c.ok.ensures.value ∙ c.in_ok-ok.was) c.split_once.ensures.cases c.in_ok-letter.was c.in-H.is c.sample.ensures in
     record { reads = got.0; only = got.1 }
 
 pub returns-in-S : goal.returns-in-S
 returns-in-S c =
-    let text = MatchResult-at_ok _ _ c.in_ok-ok.field-0 (ok_of c.from_utf8.result c.in_ok-ok.field-0 (sym c.ok.ensures.value ∙ c.in_ok-ok.was)) c.from_utf8.ensures.cases in
-    let got = read_line OfSecond c.args.line.now c.in_ok-ok.field-0.now c.split_once.result c.in_ok-letter.letter c.in_ok-letter.fields c.second.result
-    text.0 c.split_once.ensures.cases c.in_ok-letter.was c.in-S.is c.second.ensures in
+    let got = read_line _ OfSecond c.args.line.now c.from_utf8.result c.in_ok-ok.field-0 c.split_once.result c.in_ok-letter.letter c.in_ok-letter.fields c.second.result
+    c.from_utf8.ensures.cases (sym c.ok.ensures.value ∙ c.in_ok-ok.was) c.split_once.ensures.cases c.in_ok-letter.was c.in-S.is c.second.ensures in
     record { reads = got.0; only = got.1 }
