@@ -81,7 +81,7 @@ mark_apart m n h k e =
 fields : (x y : EventLine) → text_of x ≡ text_of y → fields_of x ≡ fields_of y
 fields x y e = ap (λ (l : List ℕ). drop 2 l) e
 
-pub told_apart : (x y : EventLine) → InRange x → InRange y → text_of x ≡ text_of y → x ≡ y
+told_apart : (x y : EventLine) → InRange x → InRange y → text_of x ≡ text_of y → x ≡ y
 told_apart (Frame o) (Frame p) h k e =
     let made : List ℕ → EventLine = λ items. Frame (record { items = items }) in
     ap made (frame_apart o.items p.items h.small k.small (fields (Frame o) (Frame p) e))

@@ -1,9 +1,9 @@
 -- What an event line brings, from its fields.
-use Rattle.std.proofs.Common.{◌≡◌, ℕ, zero, suc, ◌/◌, ◌%◌, ◌<◌, ◌≤◌, Bool, true, false, not, eqb, List, [], ◌∷◌, ◌++◌, length, get_or, Some, None, IsAscii, decimal, Option, sym, refl, ap, ◌∙◌, arith, lit<, Bor, MatchOption}
+use Rattle.std.proofs.Common.{◌≡◌, ℕ, ◌/◌, ◌%◌, ◌<◌, ◌≤◌, Bool, true, false, not, eqb, List, [], ◌∷◌, ◌++◌, length, Some, None, IsAscii, decimal, Option, sym, refl, ap, ◌∙◌, arith, lit<, Bor, MatchOption}
 use Rattle.std.specs.Bool.{then_some}
 use Rattle.std.proofs.lemmas.Str.Ascii.{IsAscii-nil, IsAscii-cons}
 use Rattle.std.proofs.lemmas.Fmt.{decimal_injective, IsAscii-decimal}
-use Rattle.std.proofs.lemmas.Str.Pattern.{IsSplitOnceResult, split_after, split_parts}
+use Rattle.std.proofs.lemmas.Str.Pattern.{IsSplitOnceResult, split_parts}
 use Rattle.std.proofs.lemmas.Option.{MatchOption-at_some}
 use Rattle.std.proofs.lemmas.Str.{IsAscii-append}
 use Rattle.std.proofs.lemmas.Bool.Decides.{nat_tests}
@@ -33,10 +33,10 @@ ticks_of n text true h d e = (((grind (arith, nat_tests), h), refl), d)
 ticks_of n text false h d e = ticks_none n text (grind (arith, nat_tests)) d
 
 -- a mark in two parts: the raw count, and the temperatures
-abbrev pub Parts : List ℕ → List ℕ → Type 0
+abbrev Parts : List ℕ → List ℕ → Type 0
 Parts first others = (m : Mark) × MarkFits m × (first ≡ decimal m.raw) × (others ≡ spaced m.temperatures)
 
-pub spaced_more : (n : ℕ) (ns : List ℕ) → 0 < length ns → spaced (n ∷ ns) ≡ decimal n ++ (32 ∷ spaced ns)
+spaced_more : (n : ℕ) (ns : List ℕ) → 0 < length ns → spaced (n ∷ ns) ≡ decimal n ++ (32 ∷ spaced ns)
 spaced_more n [] h = let z : ⊥ = omega arith in absurd z
 spaced_more n (m ∷ ns) h = refl
 
@@ -90,20 +90,6 @@ letter_ascii OfSecond = lit< tt
 pub text_ascii : (x : EventLine) → InRange x → IsAscii (text_of x)
 text_ascii x h = IsAscii-cons (letter_of (kind_of x)) (32 ∷ fields_of x) (letter_ascii (kind_of x)) (IsAscii-cons 32 (fields_of x) (lit< tt) (fields_ascii x h))
 
--- the letter of a line, and its fields
-
-no_space : (k : Kind) (i : ℕ) → i < 1 → get_or (letter_of k ∷ []) i 0 ≡ 32 → ⊥
-no_space PowerOn zero h e = omega arith
-no_space OfFrame zero h e = omega arith
-no_space OfTicks zero h e = omega arith
-no_space OfSample zero h e = omega arith
-no_space OfSecond zero h e = omega arith
-no_space k (suc i) h e = omega arith
-
-pub split_letter : (bs : List ℕ) (r : Option (Bor (List ℕ) × Bor (List ℕ))) → IsSplitOnceResult 32 bs r → (x : EventLine) → text_of x ≡ bs →
-    MatchOption r ⊥ (λ p. (p.0.now ≡ letter_of (kind_of x) ∷ []) × (p.1.now ≡ fields_of x))
-split_letter bs r h x e = split_after 32 bs (letter_of (kind_of x) ∷ []) (fields_of x) r h (lit< tt) (sym e) (no_space (kind_of x))
-
 -- a line cut at its first space
 pub cut_line : (line text : List ℕ) (r : Option (Bor (List ℕ) × Bor (List ℕ))) (l f : Bor (List ℕ)) → text ≡ line → IsSplitOnceResult 32 text r → r ≡ Some (l, f) → line ≡ l.now ++ (32 ∷ f.now)
 cut_line line text r l f same h e = sym same ∙ (MatchOption-at_some _ _ (l, f) e (split_parts 32 text r h (lit< tt))).0
@@ -116,10 +102,3 @@ line_reads k line letter fields None cut e h = λ x inside whole.
     h x (inside, cc) (cc)
 line_reads k line letter fields (Some x) cut e h =
     (h.0.0, let a = h.0.1 in let b = h.1 in sym (cut ∙ ap (λ (l : List ℕ). l ++ (32 ∷ fields)) e ∙ (cc)))
-
--- no other letter is one of an event
-pub other_letter : (x : EventLine) (letter : List ℕ) → letter ≡ letter_of (kind_of x) ∷ [] → (letter ≡ 70 ∷ [] → ⊥) → (letter ≡ 84 ∷ [] → ⊥) → (letter ≡ 72 ∷ [] → ⊥) → (letter ≡ 83 ∷ [] → ⊥) → ⊥
-other_letter (Frame o) letter e f t h s = f e
-other_letter (Ticks n) letter e f t h s = t e
-other_letter (Sampled y) letter e f t h s = h e
-other_letter (Second m) letter e f t h s = s e

@@ -16,14 +16,14 @@ stays [] = refl
 stays (b ∷ more) = stays more
 
 -- more bytes that find room
-pub fits : (bs more : List ℕ) → length bs + length more ≤ 130 → onto (Some bs) more ≡ Some (bs ++ more)
+fits : (bs more : List ℕ) → length bs + length more ≤ 130 → onto (Some bs) more ≡ Some (bs ++ more)
 fits bs [] h = ap (λ (l : List ℕ). Some l) (sym (append-nil bs))
 fits bs (b ∷ more) h =
     rw (lt-ltb (length bs) 130 (omega arith))
     (fits (bs ++ b ∷ []) more (omega (arith, length-append bs (b ∷ []))) ∙ ap (λ (l : List ℕ). Some l) (append_assoc bs (b ∷ []) more))
 
 -- more bytes that find none
-pub overflows : (bs more : List ℕ) → length bs ≤ 130 → 130 < length bs + length more → onto (Some bs) more ≡ None
+overflows : (bs more : List ℕ) → length bs ≤ 130 → 130 < length bs + length more → onto (Some bs) more ≡ None
 overflows bs [] h g = let z : ⊥ = omega arith in absurd z
 overflows bs (b ∷ more) h g =
     ⊎_elim

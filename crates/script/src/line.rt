@@ -18,12 +18,13 @@ pub struct LineBuffer {
 impl Model for LineBuffer {
     ghost use Rattle.std.specs.Prelude.{ℕ, ◌≤◌, List, length, Option};
     ghost use Rattle.std.specs.Option.{option_map, ForSome};
+    ghost use Rattle.script.specs.declared.line.TheConstants.{LONGEST};
 
     ghost Value = { Option (List ℕ) };
 
     ghost view = { λ l. option_map (λ bytes. bytes.items) l.kept };
 
-    ghost invariant = { λ l. ForSome l.kept (λ bytes. length bytes.items ≤ 130) };
+    ghost invariant = { λ l. ForSome l.kept (λ bytes. length bytes.items ≤ LONGEST) };
 }
 
 impl LineBuffer {
