@@ -7,12 +7,9 @@ use std::io::BufRead;
 pub(super) fn next_line<R: BufRead>(input: &mut R) -> LineBuffer {
     let mut line = LineBuffer::new();
     for _ in 0..u64::MAX {
-        let Ok(chunk) = input.fill_buf() else {
+        let Ok(chunk @ [_, ..]) = input.fill_buf() else {
             break;
         };
-        if chunk.is_empty() {
-            break;
-        }
         let end = line.take(chunk);
         let used = end.unwrap_or(chunk.len());
         input.consume(used);

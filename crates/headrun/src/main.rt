@@ -18,20 +18,14 @@ use std::io::{BufRead, BufReader, BufWriter, Write};
 
 // The count of events, from the first line.
 fn read_count<R: BufRead>(input: &mut R) -> Option<u16> {
-    match next_line(input).text() {
-        Some(text) => count(text),
-        None => None,
-    }
+    next_line(input).text().and_then(|text| count(text))
 }
 
 // The event of the next line.
 fn read_event<R: BufRead>(input: &mut R) -> Option<EventLine>
     ensures { IfSome result InRange }
 {
-    match next_line(input).text() {
-        Some(text) => event_line(text),
-        None => None,
-    }
+    next_line(input).text().and_then(|text| event_line(text))
 }
 
 // Runs a script to its end, or to its first bad line.
@@ -44,9 +38,9 @@ fn run<R: BufRead, W: Write>(input: &mut R, output: &mut W) -> io::Result<()> {
     let mut records = Records::new(&mut entries, &mut slots);
     let mut head = power_on(&mut records);
     writeln!(output, "{}", power_on_outcome(&head))?;
-    for n in 0..u32::from(events) {
+    for number in 2..u32::from(events) + 2 {
         let Some(line) = read_event(input) else {
-            return writeln!(output, "{}", BadLine { number: n + 2 });
+            return writeln!(output, "{}", BadLine { number });
         };
         let shown = bring_line(&mut head, &line, &mut records);
         writeln!(output, "{}", outcome(line.kind(), shown))?;

@@ -1,27 +1,25 @@
 -- What an event line brings, from its fields.
-use Rattle.std.proofs.Common.{◌≡◌, ℕ, zero, suc, ◌/◌, ◌%◌, ◌^◌, ◌<◌, ◌≤◌, List, [], ◌∷◌, ◌++◌, length, get_or, Some, None, IsAscii, decimal, Option, sym, refl, ap, ◌∙◌, arith, lit<, length-append, Bor, MatchOption}
-use Rattle.std.specs.List.{AllByRecursion}
+use Rattle.std.proofs.Common.{◌≡◌, ℕ, ◌/◌, ◌%◌, ◌<◌, ◌≤◌, Bool, true, false, not, eqb, List, [], ◌∷◌, ◌++◌, length, Some, None, IsAscii, decimal, Option, sym, refl, ap, ◌∙◌, arith, lit<, Bor, MatchOption}
+use Rattle.std.specs.Bool.{then_some}
 use Rattle.std.proofs.lemmas.Str.Ascii.{IsAscii-nil, IsAscii-cons}
 use Rattle.std.proofs.lemmas.Fmt.{decimal_injective, IsAscii-decimal}
-use Rattle.std.proofs.ByRecursion.{All-take, All-weaker}
-use Rattle.std.proofs.lemmas.Str.Pattern.{IsSplitOnceResult, split_after, split_parts}
+use Rattle.std.proofs.lemmas.Str.Pattern.{IsSplitOnceResult, split_parts}
 use Rattle.std.proofs.lemmas.Option.{MatchOption-at_some}
 use Rattle.std.proofs.lemmas.Str.{IsAscii-append}
 use Rattle.std.proofs.lemmas.Bool.Decides.{nat_tests}
 use Rattle.head.specs.declared.checks.Mark.{Mark}
-use Rattle.head.specs.declared.checks.Sample.{Sample}
 use Rattle.script.specs.Events.{letter_of, kind_of, frame_field, fields_of, text_of, sample_bytes, MarkFits, InRange, Of}
-use Rattle.script.specs.Hex.{hex_digit, hex, octets_in}
+use Rattle.script.specs.Hex.{hex_digit, hex}
 use Rattle.script.specs.Numbers.{spaced, Bytes}
 use Rattle.script.specs.Reading.{Reads}
 use Rattle.script.specs.declared.event.EventLine.{EventLine}
 use Rattle.script.specs.declared.event.EventLine.TheVariants.{Frame, Ticks, Sample as Sampled, Second}
 use Rattle.script.specs.declared.outcome.Kind.{Kind}
 use Rattle.script.specs.declared.outcome.Kind.TheVariants.{PowerOn, Frame as OfFrame, Ticks as OfTicks, Sample as OfSample, Second as OfSecond}
-use Rattle.script.proofs.Fields.{split_first}
+use Rattle.script.proofs.Fields.{split_first, Small, wider}
 
 -- no ticks
-pub ticks_none : (m : ℕ) (text : List ℕ) → m ≡ 0 → decimal m ≡ text → (x : EventLine) → Of OfTicks x → fields_of x ≡ text → ⊥
+ticks_none : (m : ℕ) (text : List ℕ) → m ≡ 0 → decimal m ≡ text → (x : EventLine) → Of OfTicks x → fields_of x ≡ text → ⊥
 ticks_none m text z d (Frame o) h e = omega (arith, h.1)
 ticks_none m text z d (Ticks n) h e =
     let same = decimal_injective n m (omega (arith, h.0.1)) (omega arith) (e ∙ sym d) in
@@ -29,40 +27,16 @@ ticks_none m text z d (Ticks n) h e =
 ticks_none m text z d (Sampled s) h e = omega (arith, h.1)
 ticks_none m text z d (Second s) h e = omega (arith, h.1)
 
--- no six bytes
-pub sample_none : (values text : List ℕ) → length values ≡ 6 → ((ns : List ℕ) → length ns ≡ length values → Bytes ns → spaced ns ≡ text → ⊥) →
-    (x : EventLine) → Of OfSample x → fields_of x ≡ text → ⊥
-sample_none values text l none (Frame o) h e = omega (arith, h.1)
-sample_none values text l none (Ticks n) h e = omega (arith, h.1)
-sample_none values text l none (Sampled s) h e =
-    none (sample_bytes s)
-    (omega (arith, length-append s.plate (s.strip ++ s.anode), length-append s.strip s.anode, h.0.plates, h.0.strips, h.0.anodes))
-    h.0.small e
-sample_none values text l none (Second s) h e = omega (arith, h.1)
-
--- the sample of six bytes
-abbrev pub sample_of : List ℕ → Sample
-sample_of vs = record {
-  plate = get_or vs 0 0 ∷ get_or vs 1 0 ∷ [];
-  strip = get_or vs 2 0 ∷ get_or vs 3 0 ∷ [];
-  anode = get_or vs 4 0 ∷ get_or vs 5 0 ∷ [];
-}
-
-pub six_bytes : (vs : List ℕ) → length vs ≡ 6 → sample_bytes (sample_of vs) ≡ vs
-six_bytes [] l = let z : ⊥ = omega arith in absurd z
-six_bytes (a ∷ []) l = let z : ⊥ = omega arith in absurd z
-six_bytes (a ∷ b ∷ []) l = let z : ⊥ = omega arith in absurd z
-six_bytes (a ∷ b ∷ c ∷ []) l = let z : ⊥ = omega arith in absurd z
-six_bytes (a ∷ b ∷ c ∷ d ∷ []) l = let z : ⊥ = omega arith in absurd z
-six_bytes (a ∷ b ∷ c ∷ d ∷ e ∷ []) l = let z : ⊥ = omega arith in absurd z
-six_bytes (a ∷ b ∷ c ∷ d ∷ e ∷ f ∷ []) l = refl
-six_bytes (a ∷ b ∷ c ∷ d ∷ e ∷ f ∷ g ∷ vs) l = let z : ⊥ = omega arith in absurd z
+-- ticks of a number, unless there are none
+pub ticks_of : (n : ℕ) (text : List ℕ) (some : Bool) → n ≤ 65535 → decimal n ≡ text → some ≡ not (eqb n 0) → Reads (Of OfTicks) fields_of text (then_some some (Ticks n))
+ticks_of n text true h d e = (((grind (arith, nat_tests), h), refl), d)
+ticks_of n text false h d e = ticks_none n text (grind (arith, nat_tests)) d
 
 -- a mark in two parts: the raw count, and the temperatures
-abbrev pub Parts : List ℕ → List ℕ → Type 0
+abbrev Parts : List ℕ → List ℕ → Type 0
 Parts first others = (m : Mark) × MarkFits m × (first ≡ decimal m.raw) × (others ≡ spaced m.temperatures)
 
-pub spaced_more : (n : ℕ) (ns : List ℕ) → 0 < length ns → spaced (n ∷ ns) ≡ decimal n ++ (32 ∷ spaced ns)
+spaced_more : (n : ℕ) (ns : List ℕ) → 0 < length ns → spaced (n ∷ ns) ≡ decimal n ++ (32 ∷ spaced ns)
 spaced_more n [] h = let z : ⊥ = omega arith in absurd z
 spaced_more n (m ∷ ns) h = refl
 
@@ -94,17 +68,14 @@ frame_ascii : (bs : List ℕ) → Bytes bs → IsAscii (frame_field bs)
 frame_ascii [] h = IsAscii-cons 45 [] (lit< tt) IsAscii-nil
 frame_ascii (b ∷ bs) h = hex_ascii (b ∷ bs) h
 
-spaced_ascii : (ns : List ℕ) → AllByRecursion (λ n. n < 2 ^ 64) ns → IsAscii (spaced ns)
+spaced_ascii : (ns : List ℕ) → Small ns → IsAscii (spaced ns)
 spaced_ascii [] h = IsAscii-nil
 spaced_ascii (n ∷ []) h = IsAscii-decimal n h.0
 spaced_ascii (n ∷ m ∷ ns) h =
     IsAscii-append (decimal n) (32 ∷ spaced (m ∷ ns)) (IsAscii-decimal n h.0) (IsAscii-cons 32 (spaced (m ∷ ns)) (lit< tt) (spaced_ascii (m ∷ ns) h.1))
 
-pub wider : (ns : List ℕ) → Bytes ns → AllByRecursion (λ n. n < 2 ^ 64) ns
-wider ns h = All-weaker (λ n. n ≤ 255) (λ n. n < 2 ^ 64) (λ n g. omega arith) ns h
-
 fields_ascii : (x : EventLine) → InRange x → IsAscii (fields_of x)
-fields_ascii (Frame o) h = frame_ascii (octets_in o) (All-take (λ n. n ≤ 255) o.count o.bytes h.small)
+fields_ascii (Frame o) h = frame_ascii o.items h.small
 fields_ascii (Ticks n) h = IsAscii-decimal n (omega (arith, h.1))
 fields_ascii (Sampled s) h = spaced_ascii (sample_bytes s) (wider (sample_bytes s) h.small)
 fields_ascii (Second m) h = spaced_ascii (m.raw ∷ m.temperatures) (omega (arith, h.raw), wider m.temperatures h.small)
@@ -119,20 +90,6 @@ letter_ascii OfSecond = lit< tt
 pub text_ascii : (x : EventLine) → InRange x → IsAscii (text_of x)
 text_ascii x h = IsAscii-cons (letter_of (kind_of x)) (32 ∷ fields_of x) (letter_ascii (kind_of x)) (IsAscii-cons 32 (fields_of x) (lit< tt) (fields_ascii x h))
 
--- the letter of a line, and its fields
-
-no_space : (k : Kind) (i : ℕ) → i < 1 → get_or (letter_of k ∷ []) i 0 ≡ 32 → ⊥
-no_space PowerOn zero h e = omega arith
-no_space OfFrame zero h e = omega arith
-no_space OfTicks zero h e = omega arith
-no_space OfSample zero h e = omega arith
-no_space OfSecond zero h e = omega arith
-no_space k (suc i) h e = omega arith
-
-pub split_letter : (bs : List ℕ) (r : Option (Bor (List ℕ) × Bor (List ℕ))) → IsSplitOnceResult 32 bs r → (x : EventLine) → text_of x ≡ bs →
-    MatchOption r ⊥ (λ p. (p.0.now ≡ letter_of (kind_of x) ∷ []) × (p.1.now ≡ fields_of x))
-split_letter bs r h x e = split_after 32 bs (letter_of (kind_of x) ∷ []) (fields_of x) r h (lit< tt) (sym e) (no_space (kind_of x))
-
 -- a line cut at its first space
 pub cut_line : (line text : List ℕ) (r : Option (Bor (List ℕ) × Bor (List ℕ))) (l f : Bor (List ℕ)) → text ≡ line → IsSplitOnceResult 32 text r → r ≡ Some (l, f) → line ≡ l.now ++ (32 ∷ f.now)
 cut_line line text r l f same h e = sym same ∙ (MatchOption-at_some _ _ (l, f) e (split_parts 32 text r h (lit< tt))).0
@@ -145,10 +102,3 @@ line_reads k line letter fields None cut e h = λ x inside whole.
     h x (inside, cc) (cc)
 line_reads k line letter fields (Some x) cut e h =
     (h.0.0, let a = h.0.1 in let b = h.1 in sym (cut ∙ ap (λ (l : List ℕ). l ++ (32 ∷ fields)) e ∙ (cc)))
-
--- no other letter is one of an event
-pub other_letter : (x : EventLine) (letter : List ℕ) → letter ≡ letter_of (kind_of x) ∷ [] → (letter ≡ 70 ∷ [] → ⊥) → (letter ≡ 84 ∷ [] → ⊥) → (letter ≡ 72 ∷ [] → ⊥) → (letter ≡ 83 ∷ [] → ⊥) → ⊥
-other_letter (Frame o) letter e f t h s = f e
-other_letter (Ticks n) letter e f t h s = t e
-other_letter (Sampled y) letter e f t h s = h e
-other_letter (Second m) letter e f t h s = s e

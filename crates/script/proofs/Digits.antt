@@ -1,67 +1,69 @@
 -- Octets and their digits.
-use Rattle.std.proofs.Common.{◌≡◌, ℕ, zero, suc, ◌+◌, ◌-◌, ◌*◌, ◌/◌, ◌%◌, ◌<◌, ◌≤◌, List, [], ◌∷◌, ◌++◌, length, get_or, take, drop, set, replicate, sym, refl, ap, ◌∙◌, append_assoc, arith}
-use Rattle.std.proofs.ByRecursion.{All-get_or, All-take}
-use Rattle.std.proofs.lemmas.List.{take_more, take_more_set, length-take, drop-set-lt, drop-drop, drop-replicate}
-use Rattle.script.specs.Hex.{hex_digit, octet_text, hex, octets_in, Filling}
-use Rattle.script.specs.declared.hexadecimal.Octets.{Octets}
+use Rattle.std.proofs.Common.{◌≡◌, ℕ, zero, suc, ◌*◌, ◌/◌, ◌%◌, ◌<◌, ◌≤◌, Bool, true, false, not, eqb, List, [], ◌∷◌, ◌++◌, map, length, get_or, take, drop, sym, refl, ap, ◌∙◌, arith, length-drop}
+use Rattle.std.specs.Bool.{then_some}
+use Rattle.std.specs.List.{concat}
+use Rattle.std.specs.Simd.{first_chunks}
+use Rattle.std.proofs.ByRecursion.{All-get_or}
+use Rattle.std.proofs.lemmas.Bool.Decides.{nat_tests}
+use Rattle.std.proofs.lemmas.List.{get_or-map, length-map, take-append-drop}
+use Rattle.arrayvec.specs.ArrayVec.{ArrayVec, array_vec_len}
+use Rattle.script.specs.Hex.{octet_text, hex, Filling}
+use Rattle.script.specs.Numbers.{Bytes}
+use Rattle.script.specs.Reading.{Reads}
 
 pub length_hex : (bs : List ℕ) → length (hex bs) ≡ 2 * length bs
 length_hex [] = refl
 length_hex (b ∷ bs) = omega (arith, length_hex bs)
 
-hex_append : (xs ys : List ℕ) → hex (xs ++ ys) ≡ hex xs ++ hex ys
-hex_append [] ys = refl
-hex_append (x ∷ xs) ys = ap (λ (l : List ℕ). hex_digit (x / 16) ∷ hex_digit (x % 16) ∷ l) (hex_append xs ys)
+-- the text of octets is cut into the two digits of each
+cut : (bs : List ℕ) → first_chunks 2 (length bs) (hex bs) ≡ map octet_text bs
+cut [] = refl
+cut (b ∷ bs) = ap (λ (l : List (List ℕ)). octet_text b ∷ l) (cut bs)
 
-two_more : (text : List ℕ) (i : ℕ) → 2 * i + 1 < length text → take (2 * (i + 1)) text ≡ take (2 * i) text ++ (get_or text (2 * i) 0 ∷ get_or text (2 * i + 1) 0 ∷ [])
-two_more text i h =
-    let s : 2 * (i + 1) ≡ 2 * i + 1 + 1 = omega arith in
-    ap (λ n. take n text) s
-    ∙ take_more text (2 * i + 1) 0 h
-    ∙ ap (λ (l : List ℕ). l ++ (get_or text (2 * i + 1) 0 ∷ [])) (take_more text (2 * i) 0 (omega arith))
-    ∙ append_assoc (take (2 * i) text) (get_or text (2 * i) 0 ∷ []) (get_or text (2 * i + 1) 0 ∷ [])
+-- pairs of digits, in a row
+rejoined : (n : ℕ) (text : List ℕ) → length text ≡ 2 * n → concat (first_chunks 2 n text) ≡ text
+rejoined zero [] h = refl
+rejoined zero (b ∷ text) h = let z : ⊥ = omega arith in absurd z
+rejoined (suc n) text h =
+    ap (λ (l : List ℕ). take 2 text ++ l) (rejoined n (drop 2 text) (omega (arith, length-drop 2 text))) ∙ take-append-drop 2 text
 
--- one octet more has two digits more
-pub hex_more : (bytes text : List ℕ) (i v : ℕ) → i < length bytes → 2 * i + 1 < length text → hex (take i bytes) ≡ take (2 * i) text →
-    octet_text v ≡ get_or text (2 * i) 0 ∷ get_or text (2 * i + 1) 0 ∷ [] → hex (take (i + 1) (set bytes i v)) ≡ take (2 * (i + 1)) text
-hex_more bytes text i v h g e f =
-    ap hex (take_more_set bytes i v h)
-    ∙ hex_append (take i bytes) (v ∷ [])
-    ∙ ap (λ (l : List ℕ). l ++ octet_text v) e
-    ∙ ap (λ (l : List ℕ). take (2 * i) text ++ l) f
-    ∙ sym (two_more text i g)
+in_a_row : (bs : List ℕ) → hex bs ≡ concat (map octet_text bs)
+in_a_row [] = refl
+in_a_row (b ∷ bs) = ap (λ (l : List ℕ). octet_text b ++ l) (in_a_row bs)
 
--- the places behind stay zero
-pub rest_more : (bytes : List ℕ) (i v n : ℕ) → drop i bytes ≡ replicate (n - i) 0 → drop (i + 1) (set bytes i v) ≡ replicate (n - (i + 1)) 0
-rest_more bytes i v n e =
-    let s : n - i - 1 ≡ n - (i + 1) = omega arith in
-    drop-set-lt (i + 1) bytes i v (omega arith)
-    ∙ sym (drop-drop 1 i bytes)
-    ∙ ap (λ (l : List ℕ). drop 1 l) e
-    ∙ drop-replicate 1 (n - i) 0
-    ∙ ap (λ k. replicate k 0) s
+two : (n i : ℕ) (text : List ℕ) → i < n → 2 * n ≤ length text → get_or (get_or (first_chunks 2 n text) i []) 0 0 ∷ get_or (get_or (first_chunks 2 n text) i []) 1 0 ∷ [] ≡ get_or (first_chunks 2 n text) i []
+two zero i text h l = let z : ⊥ = omega arith in absurd z
+two (suc n) zero [] h l = let z : ⊥ = omega arith in absurd z
+two (suc n) zero (a ∷ []) h l = let z : ⊥ = omega arith in absurd z
+two (suc n) zero (a ∷ b ∷ text) h l = refl
+two (suc n) (suc i) text h l = two n i (drop 2 text) (omega arith) (omega (arith, length-drop 2 text))
 
--- the two digits of an octet, by its place
-hex_at : (bs : List ℕ) (i : ℕ) → i < length bs → octet_text (get_or bs i 0) ≡ get_or (hex bs) (2 * i) 0 ∷ get_or (hex bs) (2 * i + 1) 0 ∷ []
-hex_at [] i h = let z : ⊥ = omega arith in absurd z
-hex_at (b ∷ bs) zero h = refl
-hex_at (b ∷ bs) (suc i) h =
-    let s : 2 * suc i ≡ suc (suc (2 * i)) = omega arith in
-    let t : 2 * suc i + 1 ≡ suc (suc (2 * i + 1)) = omega arith in
-    rw (t, s) (hex_at bs i (omega arith))
+-- the pairs of a text with an even number of digits
+module _ (text rest : List ℕ) (pairs : List (List ℕ)) (is : pairs ≡ first_chunks 2 (length text / 2) text) (left : length rest ≡ length text % 2) (none : length rest < 1) where
+  pair : (i : ℕ) → i < length text / 2 → get_or (get_or pairs i []) 0 0 ∷ get_or (get_or pairs i []) 1 0 ∷ [] ≡ get_or pairs i []
+  pair i h = rw is (two (length text / 2) i text h (omega arith))
 
--- how many octets a text writes
-pub counted : (o : Octets) (text : List ℕ) → Filling o → hex (octets_in o) ≡ text → (length text ≡ 2 * o.count) × (1 ≤ o.count) × (o.count ≤ 64)
-counted o text h e =
-    let l = length-take o.count o.bytes in
-    (omega (arith, ap length e, length_hex (octets_in o), h.0.room, h.0.few), h.1, h.0.few)
+  module _ (bs : List ℕ) (e : hex bs ≡ text) where
+    cut_into : pairs ≡ map octet_text bs
+    cut_into =
+        let many : length text / 2 ≡ length bs = omega (arith, ap length e, length_hex bs) in
+        is ∙ ap (λ n. first_chunks 2 n text) many ∙ ap (first_chunks 2 (length bs)) (sym e) ∙ cut bs
 
--- where two digits write no octet, the text writes none
-pub none_at : (o : Octets) (text : List ℕ) (i : ℕ) → 2 * i + 1 < length text →
-    ((b : ℕ) → b ≤ 255 → octet_text b ≡ get_or text (2 * i) 0 ∷ get_or text (2 * i + 1) 0 ∷ [] → ⊥) → Filling o → hex (octets_in o) ≡ text → ⊥
-none_at o text i lt none h e =
-    let n = counted o text h e in
-    let l = length-take o.count o.bytes in
-    let in' : i < length (octets_in o) = omega (arith, n.0, h.0.room, h.0.few) in
-    none (get_or (octets_in o) i 0) (All-get_or (λ b. b ≤ 255) (octets_in o) i 0 in' (All-take (λ b. b ≤ 255) o.count o.bytes h.0.small))
-    (hex_at (octets_in o) i in' ∙ ap (λ (t : List ℕ). get_or t (2 * i) 0 ∷ get_or t (2 * i + 1) 0 ∷ []) e)
+    -- as many octets have as many pairs
+    pub as_many : length pairs ≡ length bs
+    as_many = ap length cut_into ∙ length-map bs octet_text
+
+    -- and each pair is the digits of an octet
+    pub each : (i : ℕ) → i < length pairs → Bytes bs → (m : ℕ) × (m ≤ 255) × (octet_text m ≡ get_or (get_or pairs i []) 0 0 ∷ get_or (get_or pairs i []) 1 0 ∷ [])
+    each i h small =
+        let in' : i < length bs = omega (arith, as_many) in
+        let same : get_or pairs i [] ≡ octet_text (get_or bs i 0) = ap (λ (ps : List (List ℕ)). get_or ps i []) cut_into ∙ get_or-map octet_text bs i 0 [] in' in
+        (get_or bs i 0, All-get_or (λ b. b ≤ 255) bs i 0 in' small, sym same ∙ sym (pair i (omega (arith, as_many, length_hex bs, ap length e))))
+
+  -- octets whose digits are the pairs, if there are any
+  pub filled : (o : ArrayVec ℕ) (some : Bool) → map octet_text o.items ≡ pairs → Bytes o.items → array_vec_len o ≤ 64 → some ≡ not (eqb (array_vec_len o) 0) →
+      Reads Filling (λ p. hex p.items) text (then_some some o)
+  filled o true e small few h = ((record { few = few; small = small }, grind (arith, nat_tests)), in_a_row o.items ∙ ap concat (e ∙ is) ∙ rejoined (length text / 2) text (omega arith))
+  filled o false e small few h = λ p g f.
+      let none : length o.items ≡ 0 = grind (arith, nat_tests) in
+      omega (arith, as_many p.items f, ap length e, length-map o.items octet_text, g.1)

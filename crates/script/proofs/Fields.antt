@@ -1,65 +1,75 @@
 -- Fields of a line: numbers with one space between two.
-use Rattle.std.proofs.Common.{◌≡◌, ℕ, suc, ◌-◌, ◌^◌, ◌<◌, ◌≤◌, Bool, true, false, List, [], ◌∷◌, ◌++◌, length, get_or, set, Some, None, decimal, Option, sym, refl, ap, subst, append-nil, arith, lit<, Bor, MatchOption}
-use borrow.Rule.Slice.PartMut.{put_mid}
-use Rattle.std.specs.Str.Parse.{AllDigits, digits_value}
-use Rattle.std.proofs.lemmas.Str.Parse.{IsNumeralModel, numerals_by_value, tells_digits, not_in_digits}
-use Rattle.std.proofs.lemmas.List.{drop_all}
+use Rattle.std.proofs.Common.{◌≡◌, ℕ, ◌^◌, ◌<◌, ◌≤◌, false, eqb, List, [], ◌∷◌, ◌++◌, map, length, get_or, decimal, Option, Result, Ok, Err, sym, refl, ap, ◌∙◌, subst, arith, lit<, Bor, MatchOption}
+use Rattle.std.specs.Prelude.{IfOk, IsOk, ◌↔◌}
+use Rattle.std.specs.Result.{result_ok}
+use Rattle.std.proofs.lemmas.List.{get_or-map, length-map}
+use Rattle.std.specs.List.{All, AllByRecursion, slice_split, join_with_byte}
+use Rattle.std.proofs.lemmas.Str.Parse.{not_in_digits}
 use Rattle.std.proofs.lemmas.Fmt.{digits_decimal}
+use Rattle.std.proofs.lemmas.List.Elements.{All-from_get_or}
+use Rattle.std.proofs.lemmas.List.Splits.{slice_split_none, slice_split_at, join_with_byte-slice_split}
 use Rattle.std.proofs.lemmas.Str.Pattern.{IsSplitOnceResult, split_after}
-use Rattle.script.specs.Numbers.{spaced, Bytes, Filled}
-
-own : IsNumeralModel (AllDigits 10) (digits_value 10)
-own = numerals_by_value (AllDigits 10) tells_digits
+use Rattle.std.proofs.ByRecursion.{All-get_or, All-weaker}
+use Rattle.std.proofs.lemmas.Bool.Decides.{nat_tests}
+use Rattle.script.specs.Numbers.{spaced, Bytes, SoManyBytes}
+use Rattle.script.specs.Reading.{Reads}
+use Rattle.script.proofs.Numerals.{own}
 
 -- a decimal holds no space
-pub spaceless : (n : ℕ) → n < 2 ^ 64 → (i : ℕ) → i < length (decimal n) → get_or (decimal n) i 0 ≡ 32 → ⊥
+spaceless : (n : ℕ) → n < 2 ^ 64 → (i : ℕ) → i < length (decimal n) → get_or (decimal n) i 0 ≡ 32 → ⊥
 spaceless n h = not_in_digits own (decimal n) 32 (digits_decimal own n h) (λ b. omega (arith, b.0))
 
--- one place: no number means no list of one number
-pub none_alone : (vs ns text : List ℕ) → length vs ≡ 1 → length ns ≡ length vs → Bytes ns → spaced ns ≡ text → ((n : ℕ) → n ≤ 255 → decimal n ≡ text → ⊥) → ⊥
-none_alone vs [] text one same small e none = omega arith
-none_alone vs (n ∷ []) text one same small e none = none n small.0 e
-none_alone vs (n ∷ m ∷ ns) text one same small e none = omega arith
+-- numbers of up to 64 bits, of which bytes are
+abbrev pub Small : List ℕ → Type 0
+Small ns = AllByRecursion (λ n. n < 2 ^ 64) ns
 
--- one place, filled
-pub alone : (vs text : List ℕ) (n : ℕ) → length vs ≡ 1 → n ≤ 255 → decimal n ≡ text → Bytes (set vs 0 n) × (spaced (set vs 0 n) ≡ text)
-alone [] text n one h e = let z : ⊥ = omega arith in absurd z
-alone (v ∷ []) text n one h e = ((h, tt), e)
-alone (v ∷ w ∷ vs) text n one h e = let z : ⊥ = omega arith in absurd z
+pub wider : (ns : List ℕ) → Bytes ns → Small ns
+wider ns h = All-weaker (λ n. n ≤ 255) (λ n. n < 2 ^ 64) (λ n g. omega arith) ns h
+
+apart : (b : ℕ) → (b ≡ 32 → ⊥) → eqb b 32 ≡ false
+apart b h = grind (arith, nat_tests)
+
+uncut : (n : ℕ) → n < 2 ^ 64 → All (λ b. eqb b 32 ≡ false) (decimal n)
+uncut n h = All-from_get_or (λ b. eqb b 32 ≡ false) (decimal n) 0 (λ i l. apart (get_or (decimal n) i 0) (spaceless n h i l))
+
+-- the text of numbers is cut into their decimals
+pub pieces : (ns : List ℕ) → 0 < length ns → Small ns → slice_split (λ b. eqb b 32) (spaced ns) ≡ map decimal ns
+pieces [] h s = let z : ⊥ = omega arith in absurd z
+pieces (n ∷ []) h s = slice_split_none (λ b. eqb b 32) (decimal n) (uncut n s.0)
+pieces (n ∷ m ∷ ns) h s =
+    slice_split_at (λ b. eqb b 32) (decimal n) 32 (spaced (m ∷ ns)) (uncut n s.0) refl
+    ∙ ap (λ (r : List (List ℕ)). decimal n ∷ r) (pieces (m ∷ ns) (omega arith) s.1)
 
 -- a number, a space and a rest
 pub split_first : (n : ℕ) (rest bs : List ℕ) (r : Option (Bor (List ℕ) × Bor (List ℕ))) → IsSplitOnceResult 32 bs r → n < 2 ^ 64 → decimal n ++ (32 ∷ rest) ≡ bs →
     MatchOption r ⊥ (λ x. (x.0.now ≡ decimal n) × (x.1.now ≡ rest))
 split_first n rest bs r h small e = split_after 32 bs (decimal n) rest r h (lit< tt) (sym e) (spaceless n small)
 
--- two or more: the first field, and the others
-pub split_fields : (ns bs : List ℕ) (r : Option (Bor (List ℕ) × Bor (List ℕ))) → IsSplitOnceResult 32 bs r → 1 < length ns → Bytes ns → spaced ns ≡ bs →
-    MatchOption r ⊥ (λ x. (n : ℕ) × (m : ℕ) × (more : List ℕ) × (ns ≡ n ∷ m ∷ more) × (n ≤ 255) × (x.0.now ≡ decimal n) × (x.1.now ≡ spaced (m ∷ more)))
-split_fields [] bs r h two small e = let z : ⊥ = omega arith in absurd z
-split_fields (n ∷ []) bs r h two small e = let z : ⊥ = omega arith in absurd z
-split_fields (n ∷ m ∷ more) bs r h two small e = joined r (split_first n (spaced (m ∷ more)) bs r h (omega (arith, small.0)) e)
-  where
-    joined : (o : Option (Bor (List ℕ) × Bor (List ℕ))) → MatchOption o ⊥ (λ x. (x.0.now ≡ decimal n) × (x.1.now ≡ spaced (m ∷ more))) →
-        MatchOption o ⊥ (λ x. (n' : ℕ) × (m' : ℕ) × (more' : List ℕ) × (n ∷ m ∷ more ≡ n' ∷ m' ∷ more') × (n' ≤ 255) × (x.0.now ≡ decimal n') × (x.1.now ≡ spaced (m' ∷ more')))
-    joined None z = z
-    joined (Some x) z = (n, m, more, refl, small.0, z.0, z.1)
+module _ (text : List ℕ) (n : ℕ) (some : 0 < n) where
+  abbrev parts : List (List ℕ)
+  parts = slice_split (λ b. eqb b 32) text
 
--- the first place is written, and then the others
-written : (vs last : List ℕ) (n : ℕ) → 0 < length vs → put_mid 1 (length (set vs 0 n) - 1) (set vs 0 n) last ≡ n ∷ last
-written [] last n h = let z : ⊥ = omega arith in absurd z
-written (v ∷ vs) last n h = rw (drop_all (length (n ∷ vs) - 1) vs (omega arith)) (ap (λ (l : List ℕ). n ∷ l) (append-nil last))
+  module _ (ns : List ℕ) (h : SoManyBytes n ns) (e : spaced ns ≡ text) where
+    cut_into : parts ≡ map decimal ns
+    cut_into = ap (slice_split (λ b. eqb b 32)) (sym e) ∙ pieces ns (omega (arith, h.0)) (wider ns h.1)
 
-going : (n : ℕ) (last text field more : List ℕ) (b : Bool) → 0 < length last → n ≤ 255 → decimal n ≡ field → text ≡ field ++ (32 ∷ more) →
-    ((ns : List ℕ) → length ns ≡ suc (length last) → Bytes ns → spaced ns ≡ text → (m : ℕ) × (k : ℕ) × (rest : List ℕ) × (ns ≡ m ∷ k ∷ rest) × (m ≤ 255) × (field ≡ decimal m) × (more ≡ spaced (k ∷ rest))) →
-    Filled more last b → Filled text (n ∷ last) b
-going n [] text field more b h small e cut other f = let z : ⊥ = omega arith in absurd z
-going n (x ∷ xs) text field more true h small e cut other f = let same = f.1 in ((small, f.0), cc)
-going n (x ∷ xs) text field more false h small e cut other f = λ ns same bytes whole.
-    let got = other ns same bytes whole in
-    f (got.1 ∷ got.2) (omega (arith, ap length got.3)) (subst Bytes got.3 bytes).1 (sym got.6)
+    -- as many bytes have as many pieces
+    pub as_many : length parts ≡ n
+    as_many = ap length cut_into ∙ length-map ns decimal ∙ h.0
 
--- the first place and the others, filled or not
-pub onward : (vs last text field more : List ℕ) (n : ℕ) (b : Bool) → 1 < length vs → length last ≡ length vs - 1 → n ≤ 255 → decimal n ≡ field → text ≡ field ++ (32 ∷ more) →
-    ((ns : List ℕ) → length ns ≡ suc (length last) → Bytes ns → spaced ns ≡ text → (m : ℕ) × (k : ℕ) × (rest : List ℕ) × (ns ≡ m ∷ k ∷ rest) × (m ≤ 255) × (field ≡ decimal m) × (more ≡ spaced (k ∷ rest))) →
-    Filled more last b → Filled text (put_mid 1 (length (set vs 0 n) - 1) (set vs 0 n) last) b
-onward vs last text field more n b two len small e cut other f = rw (written vs last n (omega arith)) (going n last text field more b (omega arith) small e cut other f)
+    -- and each piece is the decimal of a byte
+    pub each : (k : ℕ) (piece : List ℕ) → k < length parts → piece ≡ get_or parts k piece → (m : ℕ) × (m ≤ 255) × (decimal m ≡ piece)
+    each k piece l at =
+        let in' : k < length ns = omega (arith, as_many, h.0) in
+        (get_or ns k 0, All-get_or (λ b. b ≤ 255) ns k 0 in' h.1, sym (at ∙ ap (λ (ps : List (List ℕ)). get_or ps k piece) cut_into ∙ get_or-map decimal ns k 0 piece in'))
+
+  -- bytes whose decimals are the pieces, in an array where they are so many
+  pub filled : {E : Type 0} (values : List ℕ) (r : Result (List ℕ) E) → map decimal values ≡ parts → Bytes values → IsOk r ↔ (length values ≡ n) → IfOk r (λ a. a ≡ values) →
+      Reads (SoManyBytes n) spaced text (result_ok r)
+  filled values (Ok a) e small many same =
+      let is : a ≡ values = same in
+      let long : length values ≡ n = many.0 refl in
+      ((ap length is ∙ long, subst Bytes (sym is) small), ap spaced is ∙ ap (join_with_byte 32) e ∙ join_with_byte-slice_split 32 text)
+  filled values (Err d) e small many same = λ ns h f.
+      let z = many.1 (sym (length-map values decimal) ∙ ap length e ∙ as_many ns h f) in
+      cc

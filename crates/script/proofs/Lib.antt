@@ -1,8 +1,7 @@
 pub mod Numerals
 pub mod Fields
-pub mod Buffers
+pub mod Chunks
 pub mod Brought
 pub mod Digits
 pub mod Sums
-pub mod Printed
 pub mod Apart

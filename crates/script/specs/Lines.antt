@@ -1,13 +1,8 @@
 -- A line as far as it has been read.
-use Rattle.std.specs.Prelude.{◌≡◌, ℕ, suc, cond, List, [], ◌∷◌, ◌++◌, length, take, Some, None, fold, Option, MatchOption, ◌≢◌, nat_lt}
+use Rattle.std.specs.Prelude.{◌≡◌, ℕ, suc, cond, List, [], ◌∷◌, ◌++◌, length, Some, None, fold, Option, MatchOption, ◌≢◌, nat_lt}
 use Rattle.std.specs.List.{AllByRecursion}
-use Rattle.script.specs.declared.line.LineBuffer.{LineBuffer}
 
--- the bytes of a line, or none where they are more than the longest legal line has
-abbrev pub kept : LineBuffer → Option (List ℕ)
-kept l = cond l.overlong None (Some (take l.count l.bytes))
-
--- one byte more, while there is room for it
+-- one byte more on a line, or none where the line is longer than the longest legal line then
 abbrev pub with_byte : Option (List ℕ) → ℕ → Option (List ℕ)
 with_byte None b = None
 with_byte (Some bs) b = cond (nat_lt (length bs) 130) (Some (bs ++ b ∷ [])) None

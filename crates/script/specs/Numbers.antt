@@ -1,6 +1,6 @@
 -- Decimal numbers, with one space between two.
-use Rattle.std.specs.Prelude.{◌≡◌, ℕ, ◌≤◌, Bool, not, ◌&&◌, ◌||◌, List, [], ◌∷◌, ◌++◌, length, decimal, MatchBool, ◌==◌, ◌≢◌, slice_index}
-use Rattle.std.specs.List.{AllByRecursion}
+use Rattle.std.specs.Prelude.{◌≡◌, ℕ, ◌≤◌, Bool, not, ◌&&◌, ◌||◌, List, map, length, decimal, ◌==◌, slice_index}
+use Rattle.std.specs.List.{AllByRecursion, join_with_byte}
 
 -- not empty, no sign, no leading zero
 abbrev pub plain : List ℕ → Bool
@@ -8,15 +8,12 @@ plain bs = (not (length bs == 0) && not (slice_index bs 0 == 43)) && (not (slice
 
 -- the decimals of numbers, with one space between two
 abbrev pub spaced : List ℕ → List ℕ
-spaced [] = []
-spaced (n ∷ []) = decimal n
-spaced (n ∷ m ∷ ns) = decimal n ++ (32 ∷ spaced (m ∷ ns))
+spaced ns = join_with_byte 32 (map decimal ns)
 
 -- each is a byte: 0 to 255
 abbrev pub Bytes : List ℕ → Type 0
 Bytes ns = AllByRecursion (λ n. n ≤ 255) ns
 
--- whether a text is that of as many bytes as there are places; if so these are in the places
-abbrev pub Filled : List ℕ → List ℕ → Bool → Type 0
-Filled text values r =
-    MatchBool r (Bytes values × (spaced values ≡ text)) ((ns : List ℕ) → length ns ≡ length values → Bytes ns → spaced ns ≢ text)
+-- so many bytes
+abbrev pub SoManyBytes : ℕ → List ℕ → Type 0
+SoManyBytes n ns = (length ns ≡ n) × Bytes ns

@@ -4,17 +4,18 @@ ghost use Rattle.script.specs.Events.{kind_of, fields_of, text_of, InRange, Of, 
 ghost use Rattle.script.specs.Reading.{Reads};
 ghost use Rattle.script.specs.declared.outcome.Kind.TheVariants.{Frame as OfFrame, Ticks as OfTicks, Sample as OfSample, Second as OfSecond};
 
-use super::decimals::{fill, number};
-use super::hexadecimal::{MOST, Octets, read_octets};
+use super::decimals::{bytes, number};
+use super::hexadecimal::{MOST, read_octets};
 use super::outcome::Kind;
+use arrayvec::ArrayVec;
 use head::{Mark, Sample};
 use std::str::from_utf8;
 
 /// What an event line brings to a head.
-#[derive(Clone, Copy)]
+#[derive(Clone, Drop)]
 pub enum EventLine {
     /// A frame: octets on the primary link, none for an empty one.
-    Frame(Octets),
+    Frame(ArrayVec<u8, MOST>),
     /// So many ticks, one after the other, at least one.
     Ticks(u16),
     /// A high-voltage sample.
@@ -41,45 +42,31 @@ impl EventLine {
 fn frame(fields: &str) -> Option<EventLine>
     ensures { Reads (Of OfFrame) fields_of fields.now result }
 {
-    if fields == "-" {
-        let none = Octets {
-            bytes: [0; MOST],
-            count: 0,
-        };
-        return Some(EventLine::Frame(none));
-    }
-    match read_octets(fields.as_bytes()) {
-        Some(held) => Some(EventLine::Frame(held)),
-        None => None,
-    }
+    let octets = if fields == "-" {
+        ArrayVec::new()
+    } else {
+        read_octets(fields.as_bytes())?
+    };
+    Some(EventLine::Frame(octets))
 }
 
 // Ticks from their number, 1 to 65,535.
 fn ticks(fields: &str) -> Option<EventLine>
     ensures { Reads (Of OfTicks) fields_of fields.now result }
 {
-    let Some(n) = number(fields, 65_535) else {
-        return None;
-    };
-    if n == 0 {
-        return None;
-    }
-    let ticks = n as u16;
-    Some(EventLine::Ticks(ticks))
+    let ticks = number(fields, 65_535)? as u16;
+    (ticks != 0).then_some(EventLine::Ticks(ticks))
 }
 
 // A sample from its six bytes.
 fn sample(fields: &str) -> Option<EventLine>
     ensures { Reads (Of OfSample) fields_of fields.now result }
 {
-    let mut values = [0; 6];
-    if !fill(fields, &mut values) {
-        return None;
-    }
+    let [plate0, plate1, strip0, strip1, anode0, anode1] = bytes::<6>(fields)?;
     Some(EventLine::Sample(Sample {
-        plate: [values[0], values[1]],
-        strip: [values[2], values[3]],
-        anode: [values[4], values[5]],
+        plate: [plate0, plate1],
+        strip: [strip0, strip1],
+        anode: [anode0, anode1],
     }))
 }
 
@@ -87,16 +74,9 @@ fn sample(fields: &str) -> Option<EventLine>
 fn second(fields: &str) -> Option<EventLine>
     ensures { Reads (Of OfSecond) fields_of fields.now result }
 {
-    let Some((first, others)) = fields.split_once(' ') else {
-        return None;
-    };
-    let Some(raw) = number(first, u32::MAX) else {
-        return None;
-    };
-    let mut temperatures = [0; 8];
-    if !fill(others, &mut temperatures) {
-        return None;
-    }
+    let (first, others) = fields.split_once(' ')?;
+    let raw = number(first, u32::MAX)?;
+    let temperatures = bytes(others)?;
     Some(EventLine::Second(Mark { raw, temperatures }))
 }
 
@@ -105,12 +85,7 @@ pub fn event_line(line: &[u8]) -> Option<EventLine>
     ensures reads { Reads InRange text_of line.now result }
     ensures only { Only line.now result }
 {
-    let Ok(text) = from_utf8(line) else {
-        return None;
-    };
-    let Some((letter, fields)) = text.split_once(' ') else {
-        return None;
-    };
+    let (letter, fields) = from_utf8(line).ok()?.split_once(' ')?;
     match letter {
         "F" => frame(fields),
         "T" => ticks(fields),

@@ -9,6 +9,5 @@ mod outcome;
 
 pub use decimals::count;
 pub use event::{EventLine, event_line};
-pub use hexadecimal::Octets;
 pub use line::LineBuffer;
 pub use outcome::{BadLine, Kind, Outcome};

@@ -1,65 +1,67 @@
 //! A line as it is read, chunk by chunk.
 ghost use Rattle.std.specs.Prelude.{◌≡◌, [], Some};
 ghost use Rattle.std.specs.Option.{option_map};
-ghost use Rattle.script.specs.Lines.{kept, with_byte, Took};
+ghost use Rattle.script.specs.Lines.{onto, Took};
+
+use arrayvec::ArrayVec;
+use std::marker::Model;
 
 /// The longest legal line: `F`, a space and 64 octets.
 const LONGEST: usize = 130;
 
-/// A line as far as it has come. No more than the longest legal line is kept of it.
-#[derive(Clone, Copy)]
+/// A line as far as it has come, or none where it is longer than the longest legal line.
+#[derive(Clone, Drop)]
 pub struct LineBuffer {
-    bytes: [u8; LONGEST],
-    count: usize,
-    overlong: bool,
+    kept: Option<ArrayVec<u8, LONGEST>>,
+}
+
+impl Model for LineBuffer {
+    ghost use Rattle.std.specs.Prelude.{ℕ, ◌≤◌, List, length, Option};
+    ghost use Rattle.std.specs.Option.{option_map, ForSome};
+    ghost use Rattle.script.specs.declared.line.TheConstants.{LONGEST};
+
+    ghost Value = { Option (List ℕ) };
+
+    ghost view = { λ l. option_map (λ bytes. bytes.items) l.kept };
+
+    ghost invariant = { λ l. ForSome l.kept (λ bytes. length bytes.items ≤ LONGEST) };
 }
 
 impl LineBuffer {
     /// A line of which nothing has come.
     pub fn new() -> LineBuffer
-        ensures { kept result ≡ Some [] }
+        ensures { result ≡ Some [] }
     {
         LineBuffer {
-            bytes: [0; LONGEST],
-            count: 0,
-            overlong: false,
+            kept: Some(ArrayVec::new()),
         }
     }
 
-    // One byte more.
-    fn push(&mut self, byte: u8)
-        ensures { kept self.new ≡ with_byte (kept self.old) byte }
+    // More bytes, or no line where they do not fit.
+    fn extend(&mut self, more: &[u8])
+        ensures { self.new ≡ onto self.old more.now }
     {
-        if self.count < LONGEST {
-            self.bytes[self.count] = byte;
-            self.count += 1;
-        } else {
-            self.overlong = true;
+        if let Some(kept) = &mut self.kept {
+            if kept.try_extend_from_slice(more).is_err() {
+                self.kept = None;
+            }
         }
     }
 
     /// Takes what a chunk has of the line, up to a line feed. Where one ends the line, this is how many bytes of the
     /// chunk are used then, the line feed too.
     pub fn take(&mut self, chunk: &[u8]) -> Option<usize>
-        ensures { Took chunk.now (kept self.old) (kept self.new) result }
+        ensures { Took chunk.now self.old self.new result }
     {
-        for (i, byte) in chunk.iter().enumerate() {
-            if *byte == b'\n' {
-                return Some(i + 1);
-            }
-            self.push(*byte);
-        }
-        None
+        let end = chunk.iter().position(|byte| *byte == b'\n');
+        self.extend(&chunk[..end.unwrap_or(chunk.len())]);
+        end.map(|i| i + 1)
     }
 
     /// The line, or none where it is longer than any legal line.
     pub fn text(&self) -> Option<&[u8]>
-        ensures { option_map (λ x. x.now) result ≡ kept self.now }
+        ensures { option_map (λ x. x.now) result ≡ self.now }
     {
-        if self.overlong {
-            return None;
-        }
-        let count = self.count.min(LONGEST);
-        Some(&self.bytes[0..count])
+        self.kept.as_ref().map(|kept| kept.as_slice())
     }
 }

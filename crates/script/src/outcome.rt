@@ -40,21 +40,6 @@ struct Answer {
     fault: Option<Report>,
 }
 
-impl Kind {
-    // The letter that a line begins with.
-    fn letter(self) -> &'static str
-        ensures { result.now ≡ letter_of self ∷ [] }
-    {
-        match self {
-            Kind::PowerOn => "P",
-            Kind::Frame => "F",
-            Kind::Ticks => "T",
-            Kind::Sample => "H",
-            Kind::Second => "S",
-        }
-    }
-}
-
 // The letter of a mode.
 fn mode_letter(mode: Mode) -> &'static str
     ensures { result.now ≡ mode_letter mode ∷ [] }
@@ -71,10 +56,25 @@ fn sum_of_bits(on: &[bool]) -> u8
     ensures { result ≡ sum_of_bits on.now }
 {
     let mut sum = 0;
-    for i in (0..on.len()).rev() {
-        sum = 2 * sum + (on[i] as u8);
+    for bit in on.iter().rev() {
+        sum = 2 * sum + u8::from(*bit);
     }
     sum
+}
+
+// The letter that a line begins with.
+impl fmt::Display for Kind {
+    ghost output = { λ x. Some (letter_of x ∷ []) };
+
+    fn fmt<W: fmt::Write>(&self, f: &mut fmt::Formatter<W>) -> fmt::Result {
+        match self {
+            Kind::PowerOn => write!(f, "P"),
+            Kind::Frame => write!(f, "F"),
+            Kind::Ticks => write!(f, "T"),
+            Kind::Sample => write!(f, "H"),
+            Kind::Second => write!(f, "S"),
+        }
+    }
 }
 
 impl fmt::Display for Answer {
@@ -83,12 +83,14 @@ impl fmt::Display for Answer {
     fn fmt<W: fmt::Write>(&self, f: &mut fmt::Formatter<W>) -> fmt::Result {
         match self.fault {
             None => write!(f, "ok"),
-            Some(report) => {
-                let layer = report.layer;
-                let code = report.code;
-                let place = report.place;
-                write!(f, "{layer}:{code}:{place}")
-            }
+            Some(
+                Report {
+                    layer,
+                    code,
+                    place,
+                    ..
+                },
+            ) => write!(f, "{layer}:{code}:{place}"),
         }
     }
 }
@@ -97,16 +99,15 @@ impl fmt::Display for Outcome {
     ghost output = { λ x. Some (outcome_text x) };
 
     fn fmt<W: fmt::Write>(&self, f: &mut fmt::Formatter<W>) -> fmt::Result {
-        let letter = self.kind.letter();
+        let kind = self.kind;
         let answer = Answer { fault: self.fault };
         let mode = mode_letter(self.mode);
-        let supply0 = self.supplies[0];
-        let supply1 = self.supplies[1];
+        let [supply0, supply1] = self.supplies;
         let heaters = sum_of_bits(&self.heaters);
         let lines = sum_of_bits(&self.lines);
         write!(
             f,
-            "{letter} {answer} {mode} {supply0} {supply1} {heaters} {lines}"
+            "{kind} {answer} {mode} {supply0} {supply1} {heaters} {lines}"
         )
     }
 }
@@ -115,7 +116,6 @@ impl fmt::Display for BadLine {
     ghost output = { λ x. Some (bad_line_text x.number) };
 
     fn fmt<W: fmt::Write>(&self, f: &mut fmt::Formatter<W>) -> fmt::Result {
-        let number = self.number;
-        write!(f, "E {number}")
+        write!(f, "E {}", self.number)
     }
 }

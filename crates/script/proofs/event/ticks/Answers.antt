@@ -1,5 +1,8 @@
-use Rattle.script.proofs.Brought.{ticks_none}
+use Rattle.std.proofs.Common.{refl}
+use Rattle.script.proofs.Brought.{ticks_of}
 use Rattle.script.proofs.event.ticks.Goals as goal
 
-pub returns-then-n-eq0 : goal.returns-then-n-eq0
-returns-then-n-eq0 c x h e = ticks_none c.in-Some.n c.args.fields.now c.if-n-eq0.true c.in-Some.ensures.1 x h e
+pub returns : goal.returns
+returns c =
+    let got = c.in_ok-ticks.ensures in
+    rw c.then_some.ensures (ticks_of c.in_ok-ticks.field-0 c.args.fields.now _ got.0 got.1 refl)

@@ -1,52 +1,34 @@
-use Rattle.std.proofs.Common.{◌≡◌, ◌-◌, ◌*◌, ◌/◌, ◌≤◌, length, take, drop, replicate, sym, ap, ◌∙◌, arith, length-set}
-use Rattle.std.proofs.ByRecursion.{All-set}
-use Rattle.std.proofs.lemmas.List.{take_all}
-use Rattle.script.specs.Hex.{hex}
-use Rattle.script.proofs.Digits.{hex_more, rest_more, counted, none_at}
+use Rattle.std.proofs.Common.{length, not, sym, ap, ◌∙◌, arith}
+use Rattle.std.proofs.lemmas.List.{length-map, length-take, take_all}
+use Rattle.std.proofs.lemmas.Result.{MatchResult-at_err}
+use Rattle.script.proofs.Digits.{length_hex, as_many, each, filled}
+use Rattle.script.proofs.Numerals.{err_of}
 use Rattle.script.proofs.hexadecimal.read_octets.Goals as goal
-use Rattle.script.proofs.hexadecimal.read_octets.Goals.{then-text-eq0-via-then-text-eq0, then-text-eq0-via-else-text-eq0+then-text-gt128, then-text-eq0-via-else-text-eq0+else-text-gt128+then-text-ne0}
-
-pub returns-then-text-eq0 : goal.returns-then-text-eq0
-returns-then-text-eq0 c o h e =
-    let n = counted o c.args.text.now h e in
-    elim c.then-text-eq0.branch [
-      | then-text-eq0-via-then-text-eq0 w ↦ omega (arith, n.0, n.1, w.if-text-eq0.true)
-      | then-text-eq0-via-else-text-eq0+then-text-gt128 w ↦ omega (arith, n.0, n.2, w.if-text-gt128.true)
-      | then-text-eq0-via-else-text-eq0+else-text-gt128+then-text-ne0 w ↦ omega (arith, n.0, w.if-text-ne0.true)
-    ]
 
 pub returns-in_default : goal.returns-in_default
-returns-in_default c o h e = none_at o c.args.text.now c.loop-i.i (omega arith) c.in_default.ensures h e
+returns-in_default c o h e = omega (arith, c.in_default.len_at_least, c.as_chunks.ensures.back_len, length_hex o.items, ap length e)
 
-pub loop-i-preserved : goal.loop-i-preserved
-loop-i-preserved c =
-    let i = c.loop-i.i in
-    let bytes = c.loop-i.bytes in
-    let inv = c.loop-i.invariant in
-    let got = c.in-Some.ensures in
-    let v = c.in-Some.value in (
-      length-set bytes i v ∙ inv.0,
-      All-set (λ b. b ≤ 255) bytes i v got.0 inv.1,
-      rest_more bytes i v 64 inv.2,
-      hex_more bytes c.args.text.now i v (omega arith) (omega arith) inv.3 got.1,
-    )
+pub returns-in_err-octet : goal.returns-in_err-octet
+returns-in_err-octet c =
+    let cut = c.as_chunks.ensures in
+    rw c.from_residual.ensures (λ o h e.
+    let m = each c.args.text.now c.as_chunks.result.1.now c.as_chunks.result.0.now cut.front cut.back_len c.in_default-empty.len_below o.items e c.loop-high.high-index c.loop-high-test.true h.0.small in
+    c.in_err-octet.ensures m.0 m.1 m.2)
+
+pub returns-in_err-ok : goal.returns-in_err-ok
+returns-in_err-ok c =
+    let cut = c.as_chunks.ensures in
+    let err = err_of c.try_push.result (sym c.ok.ensures.value ∙ c.in_err-ok.was) in
+    let full = MatchResult-at_err _ _ err.0 err.1 c.try_push.ensures.full in
+    let same = ap length c.loop-high.invariant.0 in
+    rw c.from_residual-in_err-ok.ensures (λ o h e.
+    let many = as_many c.args.text.now c.as_chunks.result.1.now c.as_chunks.result.0.now cut.front cut.back_len c.in_default-empty.len_below o.items e in
+    omega (arith, c.loop-high-test.true, full, simp (length-map, length-take) at same, many, h.0.few))
 
 pub returns : goal.returns
 returns c =
-    let i = c.loop-i.i in
-    let text = c.args.text.now in
-    let bytes = c.loop-i.bytes in
-    let inv = c.loop-i.invariant in
-    let s : i ≡ length text / 2 = omega arith in
-    let all = take_all (2 * i) text (omega arith) in (
-      (
-        record {
-          room = inv.0;
-          few = omega arith;
-          small = inv.1;
-          rest = ap (λ n. drop n bytes) (sym s) ∙ inv.2 ∙ ap (λ n. replicate (64 - n) 0) s;
-        },
-        omega arith,
-      ),
-      ap (λ n. hex (take n bytes)) (sym s) ∙ inv.3 ∙ all,
-    )
+    let cut = c.as_chunks.ensures in
+    let all = take_all c.loop-high.high-index c.as_chunks.result.0.now c.loop-high-test.false in
+    let held = c.loop-high.invariant in
+    rw c.then_some.ensures (filled c.args.text.now c.as_chunks.result.1.now c.as_chunks.result.0.now cut.front cut.back_len c.in_default-empty.len_below c.loop-high.octets _
+    (held.0 ∙ all) held.1 held.2 (ap not c.is_empty.ensures))

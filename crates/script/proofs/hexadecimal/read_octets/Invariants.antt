@@ -1,11 +1,8 @@
-use Rattle.std.proofs.Common.{◌≡◌, ◌-◌, ◌*◌, length, take, drop, replicate}
-use Rattle.script.specs.Hex.{hex}
+use Rattle.std.proofs.Common.{◌≡◌, ◌≤◌, map, take}
+use Rattle.arrayvec.specs.ArrayVec.{array_vec_len}
+use Rattle.script.specs.Hex.{octet_text}
 use Rattle.script.specs.Numbers.{Bytes}
 use Rattle.script.proofs.hexadecimal.read_octets.Given as goal
 
-abbrev pub invariant-loop-i : goal.invariant-loop-i
-invariant-loop-i l =
-    (length l.bytes ≡ 64)
-    × Bytes l.bytes
-    × (drop l.i l.bytes ≡ replicate (64 - l.i) 0)
-    × (hex (take l.i l.bytes) ≡ take (2 * l.i) l.text)
+abbrev pub invariant-loop-high : goal.invariant-loop-high
+invariant-loop-high l = (map octet_text l.octets.items ≡ take l.high-index l.pairs) × Bytes l.octets.items × (array_vec_len l.octets ≤ 64)

@@ -1,29 +1,15 @@
-use Rattle.std.proofs.Common.{◌≡◌, ◌+◌, ◌-◌, false, length, get_or, drop, sym, ap, arith, length-drop}
-use Rattle.std.proofs.lemmas.List.{drop_all, drop_more}
-use Rattle.script.specs.Outcomes.{sum_of_bits}
-use Rattle.script.proofs.Sums.{sum_lt, bit_le}
+use Rattle.std.proofs.Common.{arith}
+use Rattle.std.proofs.lemmas.Iterator.Adapters.{YieldsList-from_rev_slice}
+use Rattle.std.proofs.lemmas.Iterator.Consumers.{YieldsList-turn}
+use Rattle.script.proofs.Sums.{bit_le, room}
 use Rattle.script.proofs.outcome.sum_of_bits.Goals as goal
-
-pub loop-i-init : goal.loop-i-init
-loop-i-init c = sym (ap sum_of_bits (drop_all (length c.args.on.now) c.args.on.now (omega arith)))
 
 pub overflow_mul-sum : goal.overflow_mul-sum
 overflow_mul-sum c =
-    let rest = drop c.loop-i.i c.args.on.now in
-    let few = length-drop c.loop-i.i c.args.on.now in
-    omega (arith, c.loop-i.invariant, sum_lt rest 7 (omega arith))
+    let turn = YieldsList-turn (YieldsList-from_rev_slice c.args.on.now (cc)) c.loop-bit.yielded _ c.loop-bit.yielded_by _ _ c.in-Some.bit c.in-Some.is c.next.ensures.steps in
+    omega (arith, room c.args.on.now c.loop-bit.yielded c.loop-bit.sum c.requires turn.0 c.loop-bit.invariant)
 
 pub overflow_add-sum : goal.overflow_add-sum
 overflow_add-sum c =
-    let rest = drop c.loop-i.i c.args.on.now in
-    let few = length-drop c.loop-i.i c.args.on.now in
-    omega (arith, c.loop-i.invariant, sum_lt rest 7 (omega arith), bit_le (get_or c.args.on.now (c.loop-i.i - 1) false))
-
-pub loop-i-preserved : goal.loop-i-preserved
-loop-i-preserved c =
-    let on = c.args.on.now in
-    let i = c.loop-i.i in
-    let s : i - 1 + 1 ≡ i = omega arith in
-    let more = ap sum_of_bits (drop_more on (i - 1) false (omega arith)) in
-    let rest = ap (λ n. sum_of_bits (drop n on)) s in
-    omega (arith, c.loop-i.invariant, more, rest)
+    let turn = YieldsList-turn (YieldsList-from_rev_slice c.args.on.now (cc)) c.loop-bit.yielded _ c.loop-bit.yielded_by _ _ c.in-Some.bit c.in-Some.is c.next.ensures.steps in
+    omega (arith, room c.args.on.now c.loop-bit.yielded c.loop-bit.sum c.requires turn.0 c.loop-bit.invariant, c.from.ensures, bit_le c.in-Some.bit.now)

@@ -1,36 +1,14 @@
-use Rattle.std.proofs.Common.{◌≡◌, ℕ, ◌+◌, ◌<◌, List, ◌∷◌, ◌++◌, length, get_or, take, drop, Option, sym, ap, ◌∙◌, arith}
-use Rattle.std.proofs.ByRecursion.{All-more}
-use Rattle.std.proofs.lemmas.List.{take-append-drop, take_all, drop_more, length-take}
-use Rattle.std.proofs.lemmas.List.Sums.{fold_more}
-use Rattle.script.specs.Lines.{with_byte, kept}
+use Rattle.std.proofs.Common.{◌≡◌, ◌+◌, take, ap, ◌∙◌, rules, tests}
+use Rattle.std.specs.Option.{option_map}
+use Rattle.std.proofs.lemmas.Iterator.{YieldsList-from_slice}
+use Rattle.std.proofs.lemmas.Iterator.Search.{position_from_yields_List}
+use Rattle.script.specs.Lines.{onto}
+use Rattle.script.proofs.Chunks.{is_feed, took}
 use Rattle.script.proofs.line.LineBuffer.take.Goals as goal
-
-pub loop-i-preserved : goal.loop-i-preserved
-loop-i-preserved c =
-    let i = c.loop-i.i in
-    let chunk = c.args.chunk.now in
-    let lt : i < length chunk = omega arith in (
-      All-more (λ b. b ≡ 10 → ⊥) chunk i 0 lt c.loop-i.invariant.0 c.if-byte-eq10.false,
-      c.push.ensures
-          ∙ ap (λ (k : Option (List ℕ)). with_byte k (get_or chunk i 0)) c.loop-i.invariant.1
-          ∙ sym (fold_more with_byte (kept c.args.self.now) chunk i 0 lt),
-    )
-
-pub returns-then-byte-eq10 : goal.returns-then-byte-eq10
-returns-then-byte-eq10 c =
-    let i = c.loop-i.i in
-    let chunk = c.args.chunk.now in
-    let lt : i < length chunk = omega arith in
-    record {
-      front = take i chunk;
-      rest = drop (i + 1) chunk;
-      parts = sym (take-append-drop i chunk) ∙ ap (λ (l : List ℕ). take i chunk ++ l) (drop_more chunk i 0 lt ∙ ap (λ b. b ∷ drop (i + 1) chunk) c.if-byte-eq10.true);
-      used = omega (arith, length-take i chunk);
-      first = c.loop-i.invariant.0;
-      joins = c.loop-i.invariant.1;
-    }
 
 pub returns : goal.returns
 returns c =
-    let all = take_all c.loop-i.i c.args.chunk.now (omega arith) in
-    simp all at c.loop-i.invariant
+    let end = position_from_yields_List is_feed _ _ c.position-end.result c.position-end.ensures.ran (YieldsList-from_slice c.args.chunk.now (cc)) (λ x b q k. search (rules, tests)) in
+    let used : c.map.result ≡ option_map (λ i. i + 1) c.position-end.result = search rules in
+    took c.args.chunk.now c.args.self.now c.extend.new.self c.position-end.result c.map.result end used
+    (c.extend.ensures ∙ ap (λ n. onto c.args.self.now (take n c.args.chunk.now)) c.unwrap_or.ensures)
