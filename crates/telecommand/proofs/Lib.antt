@@ -1,3 +1,2 @@
 pub mod Readings
-pub mod Octets
 pub mod RoundTrip

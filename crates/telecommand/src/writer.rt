@@ -6,13 +6,14 @@ use super::WriteFault;
 use super::packet::{TELECOMMAND, header};
 
 // Puts the words at the start of the part, each high octet first.
-#[tactic(auto, using(crate::proofs::Octets::word_more))]
 fn put_words(part: &mut [u8], words: &[u16])
     requires { 2 * length words.now ≤ length part.old }
     ensures { part.new ≡ octets words.now ++ drop (2 * length words.now) part.old }
 {
-    for (i, word) in words.iter().enumerate() {
-        part[2 * i..2 * i + 2].copy_from_slice(&word.to_be_bytes());
+    if let [word, others @ ..] = words {
+        let (first, rest) = part.split_at_mut(2);
+        first.copy_from_slice(&word.to_be_bytes());
+        put_words(rest, others);
     }
 }
 
