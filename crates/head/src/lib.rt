@@ -19,22 +19,12 @@ pub use checks::{Check, Mark, Sample};
 pub use fault::{Fault, Note};
 pub use parameters::defaults;
 pub use records::Records;
-use std::fmt;
 pub use tick::Due;
 
 #[derive(Clone, Copy, PartialEq, Eq, Debug)]
 pub enum Mode {
     Safe,
     Checkout,
-}
-
-impl fmt::Display for Mode {
-    fn fmt<W: fmt::Write>(&self, f: &mut fmt::Formatter<W>) -> fmt::Result {
-        f.pad(match *self {
-            Mode::Safe => "SAFE",
-            Mode::Checkout => "CHECKOUT",
-        })
-    }
 }
 
 /// A critical command: it waits for its confirm before it acts.
