@@ -38,7 +38,8 @@ fn get_field(word: u32, width: u8, at: u8) -> u8
     ((word >> at) & ((1u32 << width) - 1)) as u8
 }
 
-// Brings a word across: 32 clocks, highest bit first, and one latch.
+// Brings a word across: 32 clocks, highest bit first, and one latch. The loop counts bits of a number, which no
+// iterator gives.
 #[tactic(auto, using(crate::specs::Words::shift_down, crate::specs::Words::shift_below, crate::specs::Words::test_byte))]
 fn send(register: &mut ShiftRegister, word: u32)
     ensures { register.new ≡ sent register.old word }

@@ -23,6 +23,8 @@ pub use off::all_off;
 pub use port::PortBoard;
 pub use shift_register::ShiftRegister;
 
+// An output is named by a number and no enum: a caller may ask for any, and what names none is refused.
+
 /// A board means ten outputs. Each setter changes one of them and leaves the other nine; a question changes nothing;
 /// a number that names nothing is refused, and nothing changes.
 pub trait Board {

@@ -4,6 +4,8 @@ ghost use Rattle.board.specs.Meaning.{Leaves, dark};
 
 use super::{Board, LineState};
 
+// The loops count outputs, which have numbers for names.
+
 /// Sets each of the ten outputs off, once.
 #[tactic(auto, using(crate::proofs::Above::lines_more, crate::proofs::Above::all_dark))]
 pub fn all_off<B: Board>(board: &mut B)

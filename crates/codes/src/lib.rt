@@ -3,6 +3,8 @@
 
 use std::fmt;
 
+// Numbers and no enums: they are the format of a log entry, and each crate has its enum of what it refuses.
+
 /// Where a thing went wrong (layer), what it was (code), at which octet, index or check (place), and for which
 /// command (op-code, 0 for none).
 #[derive(Clone, Copy, PartialEq, Eq, Debug, Default)]

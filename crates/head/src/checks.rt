@@ -41,7 +41,7 @@ pub struct Mark {
     pub temperatures: [u8; 8],
 }
 
-// Bit `i` of `mask`.
+// Bit `i` of `mask`. The port board has one like it: shared, it would have to be public, for any number.
 pub(super) fn bit_of(mask: u8, i: usize) -> bool
     requires { i < 8 }
     ensures { result ≡ bit mask i }
@@ -127,7 +127,7 @@ pub(super) fn rate_trips(parameters: &[u8; 25], rate: u16) -> bool
     !is_masked(parameters, Check::Rate) && rate > 256 * u16::from(parameters[COUNT_RATE])
 }
 
-// Whether any sensor that is not masked is above its limit.
+// Whether any sensor that is not masked is above its limit. The index is the sensor's number: it finds limit and bit.
 fn any_warm(parameters: &[u8; 25], temperatures: [u8; 8]) -> bool
     ensures { result ≡ warm parameters.now temperatures }
 {

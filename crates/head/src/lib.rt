@@ -72,6 +72,9 @@ pub struct Core {
     meters: Meters,
 }
 
+// No `impl Model` shows a head as its state: a clause could then not name the board, and `board` and `into_board`
+// promise the board itself.
+
 /// A head and the board that it drives, which nobody else can touch.
 #[derive(Drop)]
 pub struct Head<B> {

@@ -2,6 +2,8 @@
 ghost use Rattle.std.specs.Prelude.{◌≡◌, ◌<◌};
 ghost use Rattle.head.specs.Parameters.{range_at, within, allowed, usuals};
 
+// Indices and no enum: each use is an index into the 25 bytes, and would only be cast to one.
+
 pub(super) const NOMINAL_LEVEL: usize = 0;
 
 pub(super) const LARGEST_SET_POINT: usize = 1;

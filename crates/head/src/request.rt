@@ -37,6 +37,8 @@ fn word_at(words: &[u8], i: usize) -> u16
     u16::from_be_bytes([octet(words, i), octet(words, i + 1)])
 }
 
+// The cases have fields, so their op-codes cannot be the compiler's numbers.
+
 impl Order {
     pub(super) fn opcode(self) -> u16
         ensures { result ≡ order_op self }

@@ -10,6 +10,8 @@ use board::{Board, LineState};
 /// The line that closes the aperture door.
 pub(super) const CLOSING: u8 = 5;
 
+// A value and no closure: the rules speak of it.
+
 /// What an event comes to, as far as the mode goes.
 #[derive(Clone, Copy)]
 pub enum Turn {

@@ -10,6 +10,8 @@ use board::{Board, LineState};
 use codes::Report;
 use head::{Due, Fault, Head, Mark, Mode, Records, Sample};
 
+// A value and no closure: the promises speak of it.
+
 /// What may reach a head: a frame is what the primary and the redundant link hold.
 #[derive(Clone, Copy)]
 pub enum Event<'a> {

@@ -5,6 +5,8 @@ mod records;
 
 use std::marker::Model;
 
+// Slots, place and count and no `Vec`: a ring stands on memory that is lent.
+
 /// The newest records of one kind, as many as the lent slots hold, none where there is no slot. The next record goes
 /// to slot `next`; the `count` newest stand before it, round the end of the slots.
 #[derive(Drop)]

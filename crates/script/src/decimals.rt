@@ -13,7 +13,7 @@ fn is_plain(text: &[u8]) -> bool
     !matches!(text, [] | [b'+', ..] | [b'0', _, ..])
 }
 
-// The number that a text writes, up to `most`.
+// The number that a text writes, up to `most`; a number type in its place would have no contract for its `parse`.
 pub(super) fn number(text: &str, most: u32) -> Option<u32>
     ensures { Reads (λ n. n ≤ most) decimal text.now result }
 {

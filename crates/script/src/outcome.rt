@@ -40,7 +40,7 @@ struct Answer {
     fault: Option<Report>,
 }
 
-// The letter of a mode.
+// The letter of a mode. `Mode` is of another crate, so it cannot be printed by an impl here.
 fn mode_letter(mode: Mode) -> &'static str
     ensures { result.now ≡ mode_letter mode ∷ [] }
 {

@@ -34,6 +34,9 @@ pub enum Command<'a> {
     FireRelease(&'a [u8]),
 }
 
+// Op-codes are numbers and no enum: links bring any of them, and reports bear any. The cases have words, so their
+// numbers cannot be the compiler's.
+
 impl Command<'_> {
     pub fn opcode(&self) -> u16
         ensures { result ≡ (said self.now).opcode }

@@ -6,6 +6,8 @@ ghost use Rattle.telecommand.specs.Shown.{shown};
 use super::ReadFault;
 use super::packet::{TELECOMMAND, data_field};
 
+// Two links are two buffers and no struct: that the chooser is asked over two buffers is a wish of the project's.
+
 /// The data field of the primary link if that is well formed, else of the redundant. Where neither is, the fault is
 /// the primary's, or the redundant's where the primary is empty.
 pub fn choose<'a>(primary: &'a [u8], redundant: &'a [u8]) -> Result<&'a [u8], ReadFault>

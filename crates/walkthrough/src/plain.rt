@@ -13,6 +13,8 @@ use telecommand::ReadFault;
 #[derive(Clone, Copy)]
 pub struct Plain(pub Report);
 
+// Functions and no `TryFrom`: report and faults are of other crates, so an impl cannot stand here.
+
 // The reader's fault that gives a report.
 fn read_fault(report: Report) -> Option<ReadFault>
     ensures { IfSome result (λ fault. (read_report fault).code ≡ report.code) }

@@ -18,6 +18,7 @@ pub enum Stop {
     Changed,
 }
 
+// By hand, since a derived one would need a field.
 impl From<AllocError> for Stop {
     fn from(_: AllocError) -> Stop {
         Stop::Memory

@@ -26,6 +26,7 @@ impl fmt::Display for Lines {
     }
 }
 
+// A wrapper with a `Display` would be longer.
 fn switch(on: bool) -> &'static str {
     if on { "on" } else { "off" }
 }
