@@ -16,12 +16,7 @@ impl From<Fault> for Report {
 
     fn from(fault: Fault) -> Report {
         match fault {
-            Fault::NamesNothing => Report {
-                layer: 6,
-                code: 0x70,
-                place: 0,
-                opcode: 0,
-            },
+            Fault::NamesNothing => Report::new(6, 0x70, 0, 0),
         }
     }
 }

@@ -1,6 +1,9 @@
 //! What every layer says when it refuses or notes something: a report, and the entry of a report in the log.
 #![tactic(auto)]
 
+ghost use Rattle.std.specs.Prelude.{◌≡◌};
+ghost use Rattle.codes.specs.Reports.{report};
+
 use std::fmt;
 
 // Numbers and no enums: they are the format of a log entry, and each crate has its enum of what it refuses.
@@ -22,17 +25,26 @@ pub struct Entry {
     pub report: Report,
 }
 
-impl fmt::Display for Report {
-    fn fmt<W: fmt::Write>(&self, f: &mut fmt::Formatter<W>) -> fmt::Result {
-        let Report {
+impl Report {
+    /// A report by its four numbers: layer, code, place, op-code.
+    pub const fn new(layer: u8, code: u8, place: u16, opcode: u16) -> Report
+        ensures { result ≡ report layer code place opcode }
+    {
+        Report {
             layer,
             code,
             place,
             opcode,
-        } = *self;
+        }
+    }
+}
+
+impl fmt::Display for Report {
+    fn fmt<W: fmt::Write>(&self, f: &mut fmt::Formatter<W>) -> fmt::Result {
         write!(
             f,
-            "layer {layer}, code {code:#04x}, place {place}, op-code {opcode:#06x}"
+            "layer {}, code {:#04x}, place {}, op-code {:#06x}",
+            self.layer, self.code, self.place, self.opcode
         )
     }
 }

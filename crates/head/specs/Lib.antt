@@ -9,3 +9,4 @@ pub mod State
 pub mod Effects
 pub mod Events
 pub mod Logs
+pub mod Modes

@@ -47,33 +47,22 @@ pub enum Note {
     Replaced(u8),
 }
 
-fn gives(layer: u8, code: u8, place: u16, opcode: u16) -> Report
-    ensures { result ≡ record { layer = layer; code = code; place = place; opcode = opcode } }
-{
-    Report {
-        layer,
-        code,
-        place,
-        opcode,
-    }
-}
-
 impl From<Fault> for Report {
     ghost from_gives = { λ fault report. report ≡ report_of fault };
 
     fn from(fault: Fault) -> Report {
         match fault {
-            Fault::BothEmpty => gives(1, 0x11, 0, 0),
+            Fault::BothEmpty => Report::new(1, 0x11, 0, 0),
             Fault::Unread(fault) => fault.into(),
-            Fault::NotInSafe(opcode) => gives(2, 0x23, 6, opcode),
-            Fault::CriticalWaits(opcode) => gives(2, 0x24, 6, opcode),
-            Fault::WrongConfirm => gives(2, 0x25, 8, 0x6604),
-            Fault::NothingWaits => gives(2, 0x27, 6, 0x6604),
-            Fault::OutOfRange(place, opcode) => gives(2, 0x40, place, opcode),
-            Fault::TimerRuns => gives(3, 0x30, 6, 0x6603),
-            Fault::DriveRuns(opcode) => gives(3, 0x41, 6, opcode),
-            Fault::ConfirmFailed => gives(3, 0x45, 6, 0x6604),
-            Fault::RawCount => gives(4, 0x50, 0, 0),
+            Fault::NotInSafe(opcode) => Report::new(2, 0x23, 6, opcode),
+            Fault::CriticalWaits(opcode) => Report::new(2, 0x24, 6, opcode),
+            Fault::WrongConfirm => Report::new(2, 0x25, 8, 0x6604),
+            Fault::NothingWaits => Report::new(2, 0x27, 6, 0x6604),
+            Fault::OutOfRange(place, opcode) => Report::new(2, 0x40, place, opcode),
+            Fault::TimerRuns => Report::new(3, 0x30, 6, 0x6603),
+            Fault::DriveRuns(opcode) => Report::new(3, 0x41, 6, opcode),
+            Fault::ConfirmFailed => Report::new(3, 0x45, 6, 0x6604),
+            Fault::RawCount => Report::new(4, 0x50, 0, 0),
         }
     }
 }
@@ -83,10 +72,15 @@ impl From<Note> for Report {
 
     fn from(note: Note) -> Report {
         match note {
-            Note::Lost(opcode) => gives(2, 0x26, 6, opcode),
-            Note::Late(opcode) => gives(2, 0x28, 6, opcode),
-            Note::Tripped(check) => gives(4, 0x60 + check.number(), u16::from(check.number()), 0),
-            Note::Replaced(index) => gives(5, 0x52, u16::from(index), 0),
+            Note::Lost(opcode) => Report::new(2, 0x26, 6, opcode),
+            Note::Late(opcode) => Report::new(2, 0x28, 6, opcode),
+            Note::Tripped(check) => Report::new(
+                4,
+                0x60 + check.number(),
+                u16::from(check.number()),
+                0,
+            ),
+            Note::Replaced(index) => Report::new(5, 0x52, u16::from(index), 0),
         }
     }
 }

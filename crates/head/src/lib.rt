@@ -2,6 +2,10 @@
 //! over any board.
 #![tactic(auto)]
 
+ghost use Rattle.std.specs.Prelude.{Some};
+ghost use Rattle.std.specs.Fmt.{padded};
+ghost use Rattle.head.specs.Modes.{mode_name};
+
 mod accept;
 mod checks;
 mod fault;
@@ -17,14 +21,28 @@ mod tick;
 
 pub use checks::{Check, Mark, Sample};
 pub use fault::{Fault, Note};
-pub use parameters::defaults;
+pub use parameters::{CLOSE_ON_SAFE, defaults};
 pub use records::Records;
+use std::fmt;
 pub use tick::Due;
 
 #[derive(Clone, Copy, PartialEq, Eq, Debug)]
 pub enum Mode {
     Safe,
     Checkout,
+}
+
+impl fmt::Display for Mode {
+    ghost output = { λ mode. Some (mode_name mode) };
+
+    ghost styled_output = { λ mode spec. Some (padded spec (mode_name mode)) };
+
+    fn fmt<W: fmt::Write>(&self, f: &mut fmt::Formatter<W>) -> fmt::Result {
+        f.pad(match self {
+            Mode::Safe => "SAFE",
+            Mode::Checkout => "CHECKOUT",
+        })
+    }
 }
 
 /// A critical command: it waits for its confirm before it acts.

@@ -35,7 +35,8 @@ pub(super) const SAFETY_SECONDS: usize = 22;
 
 pub(super) const DOOR_PERIOD: usize = 23;
 
-pub(super) const CLOSE_ON_SAFE: usize = 24;
+/// Whether SAFE closes the door: 0 or 1.
+pub const CLOSE_ON_SAFE: usize = 24;
 
 /// What a parameter may be, and its default.
 #[derive(Clone, Copy)]

@@ -32,30 +32,10 @@ impl From<ReadFault> for Report {
 
     fn from(fault: ReadFault) -> Report {
         match fault {
-            ReadFault::Length => Report {
-                layer: 1,
-                code: 0x20,
-                place: 4,
-                opcode: 0,
-            },
-            ReadFault::Header(place) => Report {
-                layer: 1,
-                code: 0x10,
-                place,
-                opcode: 0,
-            },
-            ReadFault::UnknownCommand(opcode) => Report {
-                layer: 2,
-                code: 0x21,
-                place: 6,
-                opcode,
-            },
-            ReadFault::WordCount(opcode) => Report {
-                layer: 2,
-                code: 0x22,
-                place: 8,
-                opcode,
-            },
+            ReadFault::Length => Report::new(1, 0x20, 4, 0),
+            ReadFault::Header(place) => Report::new(1, 0x10, place, 0),
+            ReadFault::UnknownCommand(opcode) => Report::new(2, 0x21, 6, opcode),
+            ReadFault::WordCount(opcode) => Report::new(2, 0x22, 8, opcode),
         }
     }
 }
@@ -65,18 +45,8 @@ impl From<WriteFault> for Report {
 
     fn from(fault: WriteFault) -> Report {
         match fault {
-            WriteFault::PastEnd => Report {
-                layer: 6,
-                code: 0x71,
-                place: 0,
-                opcode: 0,
-            },
-            WriteFault::NoFrame => Report {
-                layer: 6,
-                code: 0x72,
-                place: 0,
-                opcode: 0,
-            },
+            WriteFault::PastEnd => Report::new(6, 0x71, 0, 0),
+            WriteFault::NoFrame => Report::new(6, 0x72, 0, 0),
         }
     }
 }

@@ -1,7 +1,7 @@
 //! The head: where a count rate trips, what the log of a small run holds, and memory of length zero.
-use super::shared::{holds, report};
+use super::shared::holds;
 use board::PortBoard;
-use codes::Entry;
+use codes::{Entry, Report};
 use head::{Head, Mark, Mode, Records, defaults};
 use interlock::{Event, Step, operate};
 use std::process::Abort;
@@ -21,7 +21,7 @@ const NOISY: [u8; 8] = [0x11, 0x41, 0xC0, 0x02, 0x00, 0x01, 0x66, 0x04];
 const fn entry(time: u32, layer: u8, code: u8, place: u16, opcode: u16) -> Entry {
     Entry {
         time,
-        report: report(layer, code, place, opcode),
+        report: Report::new(layer, code, place, opcode),
     }
 }
 

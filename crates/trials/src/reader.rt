@@ -1,5 +1,4 @@
 //! What the reader takes and refuses.
-use super::shared::report;
 use codes::Report;
 use std::test::Fail;
 use telecommand::{Command, ReadFault, choose, read, set_aside};
@@ -12,10 +11,10 @@ const STRANGE: [u8; 8] = [0x01, 0x01, 0xC0, 0x00, 0x00, 0x01, 0x66, 0x01];
 
 // What stands on the primary link, the redundant being empty, and the report of its fault.
 fn refusals() -> [(&'static [u8], Report); 12] {
-    let length = report(1, 0x20, 4, 0);
-    let header = |octet| report(1, 0x10, octet, 0);
-    let unknown = report(2, 0x21, 6, 0x6605);
-    let words = |opcode| report(2, 0x22, 8, opcode);
+    let length = Report::new(1, 0x20, 4, 0);
+    let header = |octet| Report::new(1, 0x10, octet, 0);
+    let unknown = Report::new(2, 0x21, 6, 0x6605);
+    let words = |opcode| Report::new(2, 0x22, 8, opcode);
     [
         (&[], length),
         (&SHORT, length),

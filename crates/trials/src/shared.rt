@@ -1,5 +1,4 @@
-//! What several trials use: a ring against the records that it should hold, and a report from its four numbers.
-use codes::Report;
+//! What several trials use: a ring against the records that it should hold.
 use ring::Ring;
 use std::fmt::Debug;
 use std::process::Abort;
@@ -12,14 +11,4 @@ pub fn holds<T: Copy + PartialEq + Debug>(rt: &impl Abort, ring: &Ring<'_, T>, n
     }
     assert_eq!(rt; ring.get(newest_first.len()), None);
     assert_eq!(rt; ring.get(usize::MAX), None);
-}
-
-/// A report: layer, code, place, op-code.
-pub const fn report(layer: u8, code: u8, place: u16, opcode: u16) -> Report {
-    Report {
-        layer,
-        code,
-        place,
-        opcode,
-    }
 }

@@ -7,17 +7,15 @@ use super::table::{headline, row, show_log};
 use super::uplink::Frames;
 use board::{Crossed, PortBoard};
 use codes::Entry;
-use head::{Head, Records, defaults};
+use head::{CLOSE_ON_SAFE, Head, Records, defaults};
 use interlock::{Event, Shown, Step, bring, operate};
 use std::io;
 
+// Each program names its board in one place, and so does headrun.
 type Driven = Crossed<PortBoard>;
 
 // As the board is found: some outputs are on, and so is bit 7 of the lines' port, which drives nothing.
 const FOUND: [u8; 4] = [0x28, 0x05, 0b0000_0010, 0b1010_0001];
-
-// The parameter that says whether SAFE closes the door: 0 or 1.
-const CLOSE_ON_SAFE: usize = 24;
 
 // How many events are brought at a time. The closing door takes nine times as many ticks.
 const SLICE: usize = 40;

@@ -13,7 +13,8 @@ use telecommand::ReadFault;
 #[derive(Clone, Copy)]
 pub struct Plain(pub Report);
 
-// Functions and no `TryFrom`: report and faults are of other crates, so an impl cannot stand here.
+// Functions and no `TryFrom`: report and faults are of other crates, which never read a fault back, so that an impl can
+// stand neither here nor there.
 
 // The reader's fault that gives a report.
 fn read_fault(report: Report) -> Option<ReadFault>

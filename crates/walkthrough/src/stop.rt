@@ -18,7 +18,7 @@ pub enum Stop {
     Changed,
 }
 
-// By hand, since a derived one would need a field.
+// By hand: a derived one needs a field, and a run without memory would then print more than it did.
 impl From<AllocError> for Stop {
     fn from(_: AllocError) -> Stop {
         Stop::Memory

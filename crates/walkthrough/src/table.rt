@@ -2,7 +2,6 @@
 use super::plain::Plain;
 use super::stop::Stop;
 use codes::{Entry, Report};
-use head::Mode;
 use interlock::Shown;
 use ring::Ring;
 use std::alloc::{AllocError, Global};
@@ -31,14 +30,6 @@ fn switch(on: bool) -> &'static str {
     if on { "on" } else { "off" }
 }
 
-// A name and no `Display` of `Mode`: it is printed in a width, and what pads has no contract.
-fn mode_name(mode: Mode) -> &'static str {
-    match mode {
-        Mode::Safe => "SAFE",
-        Mode::Checkout => "CHECKOUT",
-    }
-}
-
 fn answer(heap: Global, fault: Option<Report>) -> Result<String, AllocError> {
     match fault {
         None => "accepted".to_string(heap),
@@ -56,7 +47,7 @@ pub fn headline(rt: &HostRuntime) -> io::Result<()> {
 /// One step: what was brought, the answer, and how the head reads then.
 pub fn row(rt: &HostRuntime, number: usize, brought: &str, shown: Shown) -> Result<(), Stop> {
     let answer = answer(rt.alloc(), shown.fault)?;
-    let mode = mode_name(shown.mode);
+    let mode = shown.mode;
     let [supply0, supply1] = shown.supplies;
     let [heater0, heater1] = shown.heaters.map(switch);
     let lines = Lines(shown.lines);
