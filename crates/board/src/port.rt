@@ -73,6 +73,7 @@ impl Board for PortBoard {
         ensures refused { 2 ≤ which → outputs self.new ≡ outputs self.old }
         ensures ports { self.new ≡ supply_port self.old which set_point }
     {
+        // no `get_mut`: no contract says what an array holds after it
         within(which, 2)?;
         self.supplies[usize::from(which)] = set_point;
         Ok(())

@@ -49,6 +49,8 @@ pub(super) fn bit_of(mask: u8, i: usize) -> bool
     (mask >> i) & 1 == 1
 }
 
+// The parameters are lent to each check as the 25 bytes that they are: a struct of them would only be opened again.
+
 // The plate voltage to expect at a set point.
 fn expected_plate(set_point: u8, factor: u8) -> u16
     ensures { result ≡ expected set_point factor }
@@ -127,7 +129,8 @@ pub(super) fn rate_trips(parameters: &[u8; 25], rate: u16) -> bool
     !is_masked(parameters, Check::Rate) && rate > 256 * u16::from(parameters[COUNT_RATE])
 }
 
-// Whether any sensor that is not masked is above its limit. The index is the sensor's number: it finds limit and bit.
+// Whether any sensor that is not masked is above its limit. A loop with the index, which finds limit and bit, is a form
+// of the project (docs/DECISIONS.md).
 fn any_warm(parameters: &[u8; 25], temperatures: [u8; 8]) -> bool
     ensures { result ≡ warm parameters.now temperatures }
 {
@@ -146,7 +149,8 @@ pub(super) fn sensors_trip(parameters: &[u8; 25], temperatures: [u8; 8]) -> bool
     !is_masked(parameters, Check::Temperature) && any_warm(parameters, temperatures)
 }
 
-// The lowest of the five checks that trips, where `tripped` says it of each.
+// The lowest of the five checks that trips, where `tripped` says it of each: five flags, as the rules
+// have a list of five.
 pub(super) fn lowest(tripped: [bool; 5]) -> Option<Check>
     ensures { result ≡ lowest_of tripped }
 {

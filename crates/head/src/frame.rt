@@ -67,6 +67,7 @@ impl<B: Board> Head<B> {
     {
         match order {
             Order::SetParameter(index, value) => {
+                // no `get_mut`: no contract says what an array holds after it
                 if index < 25 {
                     self.core.parameters[usize::from(index)] = value;
                 }
@@ -103,10 +104,7 @@ impl<B: Board> Head<B> {
                 let ticks = self.core.door_ticks();
                 self.start(CLOSING, ticks);
             }
-            Request::SuppliesOff => {
-                let _ = self.board.set_supply(0, 0);
-                let _ = self.board.set_supply(1, 0);
-            }
+            Request::SuppliesOff => self.zero_supplies(),
             Request::Heater(heater, value) => {
                 let _ = self.board.set_heater(heater, value == 1);
             }

@@ -1,7 +1,7 @@
 //! Drives and the safe state: what the head does to its board.
 ghost use Rattle.std.specs.Prelude.{◌≡◌, ◌*◌, slice_index};
-ghost use Rattle.head.specs.State.{state_of};
-ghost use Rattle.head.specs.Effects.{starts, darkened, ended, shut, secured, mode_after, is_entry, turned};
+ghost use Rattle.head.specs.State.{state_of, outputs_are};
+ghost use Rattle.head.specs.Effects.{starts, without_supplies, darkened, ended, shut, secured, mode_after, is_entry, turned};
 
 use super::parameters::{CLOSE_ON_SAFE, DOOR_PERIOD};
 use super::{Core, Drive, Head, Mode};
@@ -61,12 +61,19 @@ impl<B: Board> Head<B> {
         });
     }
 
+    // Both supplies to zero.
+    pub(super) fn zero_supplies(&mut self)
+        ensures { state_of B.means self.new ≡ outputs_are (without_supplies (B.means self.old.board)) (state_of B.means self.old) }
+    {
+        let _ = self.board.set_supply(0, 0);
+        let _ = self.board.set_supply(1, 0);
+    }
+
     // Supplies and heaters off, and what waits is dropped.
     fn darken(&mut self)
         ensures { state_of B.means self.new ≡ darkened (state_of B.means self.old) }
     {
-        let _ = self.board.set_supply(0, 0);
-        let _ = self.board.set_supply(1, 0);
+        self.zero_supplies();
         let _ = self.board.set_heater(0, false);
         let _ = self.board.set_heater(1, false);
         self.core.waiting = None;

@@ -12,7 +12,7 @@ use codes::Entry;
 use ring::Ring;
 
 /// What is due after a tick: a high-voltage sample every 20 ticks, a second mark every 200.
-#[derive(Clone, Copy, PartialEq, Eq, Debug)]
+#[derive(Clone, Copy, PartialEq, Eq, Debug, Default)]
 pub struct Due {
     pub sample: bool,
     pub second: bool,

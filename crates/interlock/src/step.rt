@@ -40,19 +40,15 @@ pub struct Step<'a> {
     pub shown: Shown,
 }
 
-const NOT_DUE: Due = Due {
-    sample: false,
-    second: false,
-};
-
 impl<'a> Step<'a> {
     /// An event that has not been brought yet.
     pub fn new(event: Event<'a>) -> Step<'a>
         ensures { result ≡ record { event = event.entry; shown = unseen } }
     {
+        // field by field: what a derived default says of its arrays does not close the proof
         let shown = Shown {
             fault: None,
-            due: NOT_DUE,
+            due: Due::default(),
             mode: Mode::Safe,
             parameters: [0; 25],
             supplies: [0; 2],
@@ -93,11 +89,8 @@ fn read<B: Board>(head: &Head<B>, fault: Option<Report>, due: Due) -> Shown
         due,
         mode: head.mode(),
         parameters: head.parameters(),
-        supplies: [board.supply(0).unwrap_or(0), board.supply(1).unwrap_or(0)],
-        heaters: [
-            board.heater(0).unwrap_or(false),
-            board.heater(1).unwrap_or(false),
-        ],
+        supplies: [0, 1].map(|which| board.supply(which).unwrap_or(0)),
+        heaters: [0, 1].map(|which| board.heater(which).unwrap_or(false)),
         lines: lines(board),
     }
 }
@@ -106,7 +99,7 @@ fn read<B: Board>(head: &Head<B>, fault: Option<Report>, due: Due) -> Shown
 pub fn readings<B: Board>(head: &Head<B>) -> Shown
     ensures { result ≡ reading None not_due (state_of B.means head.now) }
 {
-    read(head, None, NOT_DUE)
+    read(head, None, Due::default())
 }
 
 // Brings one event to a head.
@@ -122,15 +115,15 @@ pub(super) fn bring_one<B: Board>(head: &mut Head<B>, event: Event, records: &mu
         }
         Event::Frame(primary, redundant) => {
             let fault = fault_of(head.frame(primary, redundant, &mut records.log));
-            read(head, fault, NOT_DUE)
+            read(head, fault, Due::default())
         }
         Event::Sample(sample) => {
             head.sample(sample, &mut records.log);
-            read(head, None, NOT_DUE)
+            read(head, None, Due::default())
         }
         Event::Second(mark) => {
             let fault = fault_of(head.second(mark, records));
-            read(head, fault, NOT_DUE)
+            read(head, fault, Due::default())
         }
     }
 }

@@ -6,7 +6,7 @@ ghost use Rattle.telecommand.specs.Shown.{shown};
 use super::ReadFault;
 use super::packet::{TELECOMMAND, data_field};
 
-// Two links are two buffers and no struct: that the chooser is asked over two buffers is a wish of the project's.
+// Two links are two buffers and no struct: a chooser over two buffers is a form of the project (docs/DECISIONS.md).
 
 /// The data field of the primary link if that is well formed, else of the redundant. Where neither is, the fault is
 /// the primary's, or the redundant's where the primary is empty.

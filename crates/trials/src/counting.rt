@@ -19,7 +19,7 @@ pub struct Counting<B> {
 
 // One setting more of an output; a number that names none is not counted.
 fn count(counts: &mut [u8], which: u8) {
-    if let Some(n) = counts.get_mut(which as usize) {
+    if let Some(n) = counts.get_mut(usize::from(which)) {
         *n = n.saturating_add(1);
     }
 }

@@ -3,7 +3,8 @@ use ring::Ring;
 use std::fmt::Debug;
 use std::process::Abort;
 
-/// The ring holds these records, newest first, and none beyond. A ring is asked by age, so the age is counted.
+/// The ring holds these records, newest first, and none beyond. A ring has no iterator:
+/// one would be a type with its proofs, for two callers.
 pub fn holds<T: Copy + PartialEq + Debug>(rt: &impl Abort, ring: &Ring<'_, T>, newest_first: &[T]) {
     assert_eq!(rt; ring.len(), newest_first.len());
     for (age, record) in newest_first.iter().enumerate() {

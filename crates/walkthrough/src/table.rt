@@ -69,7 +69,7 @@ fn entry_row(rt: &HostRuntime, entry: Entry) -> io::Result<()> {
     println!(rt; "   {time:>7}  {layer:>5}  {code:#04x}  {place:>5}  {opcode:04x}     {words}")
 }
 
-/// The log, from the oldest entry to the newest.
+/// The log, from the oldest entry to the newest. A ring has no iterator, so its ages are counted.
 pub fn show_log(rt: &HostRuntime, log: &Ring<'_, Entry>) -> io::Result<()> {
     println!(rt; "      time  layer  code  place  op-code  in words")?;
     for entry in (0..log.len()).rev().filter_map(|age| log.get(age)) {
