@@ -1,3 +1,4 @@
 pub mod Above
 pub mod Bits
 pub mod KeptAsBits
+pub mod Past

@@ -76,10 +76,12 @@ module _ (n : ℕ) (before after : List Step) (s t : State) (r q : Records) (ran
       (subst (λ (d : Did). Held (d ∷ continued h i after) (step u (event_at before i) (kept i))) (same_did i (omega arith))
       (more (event_at before i) (continued h i after) u (kept i) (goes_on i (omega arith)) (kept_on Held step more kept goes i (omega arith) held)))
 
+  rates_on : (i : ℕ) → i ≤ n → RatesHeld h r.rates → RatesHeld (continued h i after) (records_after_all s i before r).rates
+  rates_on = kept_on RatesHeld rates_after (λ e h s l f held. (rates_step e h s l (every f) (last_raw f) held).rates_more) (λ i. (records_after_all s i before r).rates) (λ i. refl)
+
   pub run_rates : n ≡ length after → RatesHeld h r.rates → RatesHeld (continued h (length after) after) q.rates
   run_rates e k =
-      subst (λ (m : ℕ). RatesHeld (continued h m after) q.rates) e (subst (λ (w : Records). RatesHeld (continued h n after) w.rates) (sym ran.written)
-      (kept_on RatesHeld rates_after (λ e h s l f held. (rates_step e h s l (every f) (last_raw f) held).rates_more) (λ i. (records_after_all s i before r).rates) (λ i. refl) n (omega arith) k))
+      subst (λ (m : ℕ). RatesHeld (continued h m after) q.rates) e (subst (λ (w : Records). RatesHeld (continued h n after) w.rates) (sym ran.written) (rates_on n (omega arith) k))
 
   pub run_log : n ≡ length after → LogHeld h r.log → LogHeld (continued h (length after) after) q.log
   run_log e k =

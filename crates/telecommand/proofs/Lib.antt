@@ -1,2 +1,5 @@
 pub mod Readings
+pub mod Octets
 pub mod RoundTrip
+pub mod Parts
+pub mod Lengths

@@ -1,5 +1,5 @@
 -- A frame that was written is read as its command, on the primary link, whatever stands on the redundant.
-use Rattle.std.proofs.Common.{◌≡◌, ℕ, ◌+◌, ◌*◌, ◌/◌, ◌≤◌, true, List, [], ◌∷◌, ◌++◌, length, refl, take, drop, Some, None, Ok, Option, Result, ap, ◌∙◌, append_assoc, arith, eq-eqb, le-leb}
+use Rattle.std.proofs.Common.{◌≡◌, ℕ, ◌+◌, ◌*◌, ◌/◌, ◌≤◌, true, List, ◌∷◌, ◌++◌, length, take, drop, Some, None, Ok, Option, Result, ap, ◌∙◌, append_assoc, arith, eq-eqb, le-leb}
 use Rattle.std.proofs.lemmas.List.{length-take-le, take_at, drop_at}
 use Rattle.telecommand.specs.Packet.{word, sized}
 use Rattle.telecommand.specs.Commands.{Telecommand, Legal, WordsFit, of_kind, kind_in, commands, command_of}
@@ -7,10 +7,7 @@ use Rattle.telecommand.specs.Links.{link_field, prefer, blank, command_in, reads
 use Rattle.telecommand.specs.Frames.{octets, frame_of, after, ReadsBack}
 use Rattle.telecommand.specs.declared.kinds.Kind.{Kind}
 use Rattle.telecommand.specs.declared.fault.ReadFault.{ReadFault}
-
-octets_length : (ws : List ℕ) → length (octets ws) ≡ 2 * length ws
-octets_length [] = refl
-octets_length (w ∷ ws) = let e = octets_length ws in omega arith
+use Rattle.telecommand.proofs.Octets.{octets_length}
 
 frame_length : (op count : ℕ) (ws : List ℕ) → length (frame_of op ws count) ≡ 8 + 2 * length ws
 frame_length op count ws = let o = octets_length ws in omega arith
