@@ -22,6 +22,7 @@ pub(super) fn power_on(records: &mut Records) -> Head<Driven> {
 pub(super) fn outcome(kind: Kind, shown: Shown) -> Outcome
     ensures { result ≡ printed kind shown }
 {
+    // Field by field, since script knows no interlock.
     let Shown {
         fault,
         mode,

@@ -6,6 +6,7 @@ use std::io::BufRead;
 // legal one.
 pub(super) fn next_line<R: BufRead>(input: &mut R) -> LineBuffer {
     let mut line = LineBuffer::new();
+    // Counted, since a loop has to end; no input is that long.
     for _ in 0..u64::MAX {
         let Ok(chunk @ [_, ..]) = input.fill_buf() else {
             break;

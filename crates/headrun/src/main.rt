@@ -16,6 +16,8 @@ use script::{BadLine, EventLine, count, event_line};
 use std::io;
 use std::io::{BufRead, BufReader, BufWriter, Write};
 
+// Two functions of one line: one over a closure would need the parser's contract as a clause.
+
 // The count of events, from the first line.
 fn read_count<R: BufRead>(input: &mut R) -> Option<u16> {
     next_line(input).text().and_then(|text| count(text))

@@ -27,8 +27,11 @@ decimals_apart (m ∷ ms) [] p q e = cc
 decimals_apart (m ∷ ms) (n ∷ ns) p q e =
     ap (λ k. k ∷ ms) (decimal_injective m n p.0 q.0 (cc)) ∙ ap (λ (l : List ℕ). n ∷ l) (decimals_apart ms ns p.1 q.1 (cc))
 
-spaced_apart : (ms ns : List ℕ) → Small ms → Small ns → 0 < length ms → length ms ≡ length ns → spaced ms ≡ spaced ns → ms ≡ ns
-spaced_apart ms ns p q h l e = decimals_apart ms ns p q (sym (pieces ms h p) ∙ ap (slice_split (λ b. eqb b 32)) e ∙ pieces ns (omega arith) q)
+spaced_apart : (ms ns : List ℕ) → Small ms → Small ns → length ms ≡ length ns → spaced ms ≡ spaced ns → ms ≡ ns
+spaced_apart [] [] p q l e = refl
+spaced_apart [] (n ∷ ns) p q l e = let z : ⊥ = omega arith in absurd z
+spaced_apart (m ∷ ms) ns p q l e =
+    decimals_apart (m ∷ ms) ns p q (sym (pieces (m ∷ ms) (omega arith) p) ∙ ap (slice_split (λ b. eqb b 32)) e ∙ pieces ns (omega arith) q)
 
 digit_apart : (c d : ℕ) → c < 16 → d < 16 → hex_digit c ≡ hex_digit d → c ≡ d
 digit_apart c d h k e = grind (arith, nat_tests)
@@ -63,7 +66,7 @@ six s h = omega (arith, length-append s.plate (s.strip ++ s.anode), length-appen
 
 sample_apart : (s t : Sample) → SixBytes s → SixBytes t → spaced (sample_bytes s) ≡ spaced (sample_bytes t) → s ≡ t
 sample_apart s t h k e =
-    let all = spaced_apart (sample_bytes s) (sample_bytes t) (wider (sample_bytes s) h.small) (wider (sample_bytes t) k.small) (omega (arith, six s h)) (six s h ∙ sym (six t k)) e in
+    let all = spaced_apart (sample_bytes s) (sample_bytes t) (wider (sample_bytes s) h.small) (wider (sample_bytes t) k.small) (six s h ∙ sym (six t k)) e in
     let first = halves s.plate (s.strip ++ s.anode) t.plate (t.strip ++ t.anode) 2 h.plates k.plates all in
     let second' = halves s.strip s.anode t.strip t.anode 2 h.strips k.strips first.1 in
     let made : List ℕ → List ℕ → List ℕ → Sample = λ p q r. record { plate = p; strip = q; anode = r } in
@@ -74,7 +77,7 @@ sample_apart s t h k e =
 mark_apart : (m n : Mark) → MarkFits m → MarkFits n → spaced (m.raw ∷ m.temperatures) ≡ spaced (n.raw ∷ n.temperatures) → m ≡ n
 mark_apart m n h k e =
     let all = spaced_apart (m.raw ∷ m.temperatures) (n.raw ∷ n.temperatures) (omega (arith, h.raw), wider m.temperatures h.small) (omega (arith, k.raw), wider n.temperatures k.small)
-    (omega arith) (omega (arith, h.sensors, k.sensors)) e in
+    (omega (arith, h.sensors, k.sensors)) e in
     let made : ℕ → List ℕ → Mark = λ r t. record { raw = r; temperatures = t } in
     ap (λ r. made r m.temperatures) (ap (λ (l : List ℕ). get_or l 0 0) all) ∙ ap (λ (l : List ℕ). made n.raw l) (ap (λ (l : List ℕ). drop 1 l) all)
 
@@ -101,15 +104,15 @@ told_apart (Second m) (Ticks n) h k e = let z : ⊥ = omega (arith, ap (λ (l : 
 told_apart (Second m) (Sampled t) h k e = let z : ⊥ = omega (arith, ap (λ (l : List ℕ). get_or l 0 0) e) in absurd z
 told_apart (Second m) (Second n) h k e = ap (λ (z : Mark). Second z) (mark_apart m n h k (fields (Second m) (Second n) e))
 
-only : (text : List ℕ) (r : Option EventLine) → Reads InRange text_of text r → Only text r
+pub only : (text : List ℕ) (r : Option EventLine) → Reads InRange text_of text r → Only text r
 only text None h = tt
 only text (Some x) h = λ y k e. told_apart y x k h.0 (e ∙ sym h.1)
 
 -- a line that is text, by its first space, its letter and its fields
-pub read_line : {E : Type 0} (Q : E → Type 0) (k : Kind) (line : List ℕ) (u : Result (Bor (List ℕ)) E) (t : Bor (List ℕ)) (p : Option (Bor (List ℕ) × Bor (List ℕ))) (l f : Bor (List ℕ)) (r : Option EventLine) →
+pub read_parts : {E : Type 0} (Q : E → Type 0) (k : Kind) (line : List ℕ) (u : Result (Bor (List ℕ)) E) (t : Bor (List ℕ)) (p : Option (Bor (List ℕ) × Bor (List ℕ))) (l f : Bor (List ℕ)) (r : Option EventLine) →
     MatchResult u (λ s. (s.now ≡ line) × IsUtf8 line) Q → result_ok u ≡ Some t → IsSplitOnceResult 32 t.now p → p ≡ Some (l, f) → l.now ≡ letter_of k ∷ [] → Reads (Of k) fields_of f.now r →
     Reads InRange text_of line r × Only line r
-read_line Q k line u t p l f r text ok h e is got =
+read_parts Q k line u t p l f r text ok h e is got =
     let same = MatchResult-at_ok _ _ t (ok_of u t ok) text in
     let all = line_reads k line l.now f.now r (cut_line line t.now p l f same.0 h e) is got in
     (all, only line r all)

@@ -33,9 +33,9 @@ overflows bs (b ∷ more) h g =
 
 -- a call that appends all of the bytes, or none where they do not fit
 
-pub refused : {E : Type 0} (bs more : List ℕ) (r : Result (Unit {0}) E) → length bs ≤ 130 → IsOk r ↔ (length bs + length more ≤ 130) → is_err r ≡ true → None ≡ onto (Some bs) more
-refused bs more (Ok u) h fit e = absurd (false≢true e)
-refused bs more (Err d) h fit e =
+pub turned_down : {E : Type 0} (bs more : List ℕ) (r : Result (Unit {0}) E) → length bs ≤ 130 → IsOk r ↔ (length bs + length more ≤ 130) → is_err r ≡ true → None ≡ onto (Some bs) more
+turned_down bs more (Ok u) h fit e = absurd (false≢true e)
+turned_down bs more (Err d) h fit e =
     let no : length bs + length more ≤ 130 → ⊥ = λ l. false≢true (fit.1 l) in
     sym (overflows bs more h (omega arith))
 

@@ -16,9 +16,9 @@ length_hex [] = refl
 length_hex (b ∷ bs) = omega (arith, length_hex bs)
 
 -- the text of octets is cut into the two digits of each
-cut : (bs : List ℕ) → first_chunks 2 (length bs) (hex bs) ≡ map octet_text bs
-cut [] = refl
-cut (b ∷ bs) = ap (λ (l : List (List ℕ)). octet_text b ∷ l) (cut bs)
+cut_in_pairs : (bs : List ℕ) → first_chunks 2 (length bs) (hex bs) ≡ map octet_text bs
+cut_in_pairs [] = refl
+cut_in_pairs (b ∷ bs) = ap (λ (l : List (List ℕ)). octet_text b ∷ l) (cut_in_pairs bs)
 
 -- pairs of digits, in a row
 rejoined : (n : ℕ) (text : List ℕ) → length text ≡ 2 * n → concat (first_chunks 2 n text) ≡ text
@@ -47,7 +47,7 @@ module _ (text rest : List ℕ) (pairs : List (List ℕ)) (is : pairs ≡ first_
     cut_into : pairs ≡ map octet_text bs
     cut_into =
         let many : length text / 2 ≡ length bs = omega (arith, ap length e, length_hex bs) in
-        is ∙ ap (λ n. first_chunks 2 n text) many ∙ ap (first_chunks 2 (length bs)) (sym e) ∙ cut bs
+        is ∙ ap (λ n. first_chunks 2 n text) many ∙ ap (first_chunks 2 (length bs)) (sym e) ∙ cut_in_pairs bs
 
     -- as many octets have as many pairs
     pub as_many : length pairs ≡ length bs

@@ -5,3 +5,4 @@ pub mod Brought
 pub mod Digits
 pub mod Sums
 pub mod Apart
+pub mod More

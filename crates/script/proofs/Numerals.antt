@@ -48,15 +48,15 @@ decimal_plain zero h = rw (decimal_digit 0 (omega arith)) refl
 decimal_plain (suc n) h = shaped (length (decimal (suc n))) (get_or (decimal (suc n)) 0 0) (decimal_nonempty (suc n) h) (first_decimal (suc n) (omega arith) h)
 
 module _ {E : Type 0} (bs : List ℕ) (r : Result ℕ E) (h : ParsesUnsigned 32 10 bs r) where
-  pub read_decimal : plain bs ≡ true → (n : ℕ) → result_ok r ≡ Some n → (n < 2 ^ 32) × (decimal n ≡ bs)
+  pub read_below : plain bs ≡ true → (n : ℕ) → result_ok r ≡ Some n → (n < 2 ^ 32) × (decimal n ≡ bs)
   unfolding shape
-  read_decimal p n e =
+  read_below p n e =
       let got = OkIff-at_ok r _ _ n (parse_plain own 32 bs r h (signless (length bs) (get_or bs 0 0) p)) (ok_of r n e) in
       (omega (arith, got.0.2, got.1), ap decimal got.1 ∙ decimal-digits_value own bs got.0.0 got.0.1 (lead (length bs) (get_or bs 0 0) p) (omega (arith, got.0.2)))
 
   -- a decimal is read back
-  pub reads_back : (n : ℕ) → n < 2 ^ 32 → decimal n ≡ bs → result_ok r ≡ Some n
-  reads_back n small e = ap result_ok (parse-decimal 32 n bs r small (omega arith) (sym e) h)
+  pub reads_some : (n : ℕ) → n < 2 ^ 32 → decimal n ≡ bs → result_ok r ≡ Some n
+  reads_some n small e = ap result_ok (parse-decimal 32 n bs r small (omega arith) (sym e) h)
 
 -- a number that a text writes, where it is not above a limit
 pub read_up_to : (bs : List ℕ) (n most : ℕ) (b : Bool) → decimal n ≡ bs → n < 2 ^ 32 → most < 2 ^ 32 → b ≡ leb n most → Reads (λ m. m ≤ most) decimal bs (then_some b n)

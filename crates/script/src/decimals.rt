@@ -24,6 +24,13 @@ pub(super) fn number(text: &str, most: u32) -> Option<u32>
     (n <= most).then_some(n)
 }
 
+// The number that a text writes, up to 65,535.
+pub(super) fn short(text: &str) -> Option<u16>
+    ensures { Reads (λ n. n ≤ 65535) decimal text.now result }
+{
+    number(text, 65_535).map(|n| n as u16)
+}
+
 // The bytes that a text writes, so many of them, with one space between two.
 pub(super) fn bytes<const N: usize>(text: &str) -> Option<[u8; N]>
     requires some { 0 < N }
@@ -42,5 +49,5 @@ pub fn count(line: &[u8]) -> Option<u16>
     ensures { Reads (λ n. n ≤ 65535) decimal line.now result }
 {
     let text = from_utf8(line).ok()?;
-    number(text, 65_535).map(|n| n as u16)
+    short(text)
 }

@@ -4,12 +4,14 @@ ghost use Rattle.script.specs.Events.{kind_of, fields_of, text_of, InRange, Of, 
 ghost use Rattle.script.specs.Reading.{Reads};
 ghost use Rattle.script.specs.declared.outcome.Kind.TheVariants.{Frame as OfFrame, Ticks as OfTicks, Sample as OfSample, Second as OfSecond};
 
-use super::decimals::{bytes, number};
+use super::decimals::{bytes, number, short};
 use super::hexadecimal::{MOST, read_octets};
 use super::outcome::Kind;
 use arrayvec::ArrayVec;
 use head::{Mark, Sample};
 use std::str::from_utf8;
+
+// A value and no closure: contracts speak of it.
 
 /// What an event line brings to a head.
 #[derive(Clone, Drop)]
@@ -54,7 +56,7 @@ fn frame(fields: &str) -> Option<EventLine>
 fn ticks(fields: &str) -> Option<EventLine>
     ensures { Reads (Of OfTicks) fields_of fields.now result }
 {
-    let ticks = number(fields, 65_535)? as u16;
+    let ticks = short(fields)?;
     (ticks != 0).then_some(EventLine::Ticks(ticks))
 }
 
