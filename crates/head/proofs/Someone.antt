@@ -1,4 +1,4 @@
--- A loop that looks for a number at which a test passes.
+-- A loop that looks for a number at which a test passes. Of these only `some_at` is cited: the check finds the other alone.
 use Rattle.std.proofs.Common.{◌≡◌, ℕ, ◌+◌, ◌<◌, Bool, true, false, refl, add-one}
 use Rattle.std.proofs.lemmas.Bool.{or_from}
 use Rattle.std.proofs.lemmas.Bool.Decides.{Decides-below_or}

@@ -149,8 +149,8 @@ pub(super) fn sensors_trip(parameters: &[u8; 25], temperatures: [u8; 8]) -> bool
     !is_masked(parameters, Check::Temperature) && any_warm(parameters, temperatures)
 }
 
-// The lowest of the five checks that trips, where `tripped` says it of each: five flags, as the rules
-// have a list of five.
+// The lowest of the five checks that trips, where `tripped` says it of each. Five flags: an option
+// of each check would name every check twice.
 pub(super) fn lowest(tripped: [bool; 5]) -> Option<Check>
     ensures { result ≡ lowest_of tripped }
 {

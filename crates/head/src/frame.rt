@@ -141,6 +141,8 @@ impl<B: Board> Head<B> {
         self.core.waiting = None;
     }
 
+    // Two buffers and no struct of links, as `choose` of telecommand has them.
+
     /// A frame on the primary and the redundant link: accepted, or the first fault.
     pub fn frame<'a>(
         &mut self,

@@ -10,6 +10,8 @@ use head::{Head, Records, defaults};
 use interlock::{Event, Shown, Step, bring, readings};
 use script::{EventLine, Kind, Outcome};
 
+// Each program names its board in one place (docs/DECISIONS.md).
+
 /// The board that is driven: the crossing adapter on a port board.
 pub(super) type Driven = Crossed<PortBoard>;
 

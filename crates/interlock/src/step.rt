@@ -10,7 +10,7 @@ use board::{Board, LineState};
 use codes::Report;
 use head::{Due, Fault, Head, Mark, Mode, Records, Sample};
 
-// A value and no closure: the promises speak of it.
+// A value and no closure: the promises speak of it. A frame has two buffers and no struct of links, as the head has it.
 
 /// What may reach a head: a frame is what the primary and the redundant link hold.
 #[derive(Clone, Copy)]

@@ -7,10 +7,11 @@ use Rattle.std.proofs.lemmas.Fmt.{decimal_injective}
 use Rattle.std.proofs.lemmas.List.{take_at, drop_at}
 use Rattle.std.proofs.lemmas.Str.Pattern.{IsSplitOnceResult}
 use Rattle.std.proofs.lemmas.Bool.Decides.{nat_tests}
+use Rattle.arrayvec.specs.ArrayVec.{ArrayVec}
 use Rattle.head.specs.declared.checks.Mark.{Mark}
 use Rattle.head.specs.declared.checks.Sample.{Sample}
 use Rattle.script.specs.Events.{letter_of, frame_field, fields_of, text_of, sample_bytes, SixBytes, MarkFits, InRange, Of, Only}
-use Rattle.script.specs.Hex.{hex_digit, hex}
+use Rattle.script.specs.Hex.{hex_digit, hex, Sound}
 use Rattle.script.specs.Numbers.{spaced, Bytes}
 use Rattle.script.specs.Reading.{Reads}
 use Rattle.script.specs.declared.event.EventLine.{EventLine}
@@ -18,7 +19,7 @@ use Rattle.script.specs.declared.event.EventLine.TheVariants.{Frame, Ticks, Samp
 use Rattle.script.specs.declared.outcome.Kind.{Kind}
 use Rattle.script.proofs.Brought.{cut_line, line_reads}
 use Rattle.script.proofs.Numerals.{ok_of}
-use Rattle.script.proofs.Fields.{Small, wider, pieces}
+use Rattle.script.proofs.Fields.{Small, wider, cut_at_spaces}
 
 decimals_apart : (ms ns : List ℕ) → Small ms → Small ns → map decimal ms ≡ map decimal ns → ms ≡ ns
 decimals_apart [] [] p q e = refl
@@ -31,7 +32,7 @@ spaced_apart : (ms ns : List ℕ) → Small ms → Small ns → length ms ≡ le
 spaced_apart [] [] p q l e = refl
 spaced_apart [] (n ∷ ns) p q l e = let z : ⊥ = omega arith in absurd z
 spaced_apart (m ∷ ms) ns p q l e =
-    decimals_apart (m ∷ ms) ns p q (sym (pieces (m ∷ ms) (omega arith) p) ∙ ap (slice_split (λ b. eqb b 32)) e ∙ pieces ns (omega arith) q)
+    decimals_apart (m ∷ ms) ns p q (sym (cut_at_spaces (m ∷ ms) (omega arith) p) ∙ ap (slice_split (λ b. eqb b 32)) e ∙ cut_at_spaces ns (omega arith) q)
 
 digit_apart : (c d : ℕ) → c < 16 → d < 16 → hex_digit c ≡ hex_digit d → c ≡ d
 digit_apart c d h k e = grind (arith, nat_tests)
@@ -55,6 +56,11 @@ frame_apart [] [] p q e = refl
 frame_apart [] (b ∷ bs) p q e = let z : ⊥ = omega (arith, ap length e) in absurd z
 frame_apart (a ∷ cs) [] p q e = let z : ⊥ = omega (arith, ap length e) in absurd z
 frame_apart (a ∷ cs) (b ∷ bs) p q e = hex_apart (a ∷ cs) (b ∷ bs) p q e
+
+octets_apart : (o p : ArrayVec ℕ) → Sound o → Sound p → o.items ≡ p.items → o ≡ p
+octets_apart o p h k e =
+    let made : List ℕ → ArrayVec ℕ = λ items. record { items = items } in
+    ap made e
 
 -- two lists in a row, cut where the first has its end
 halves : (a b c d : List ℕ) (n : ℕ) → length a ≡ n → length c ≡ n → a ++ b ≡ c ++ d → (a ≡ c) × (b ≡ d)
@@ -85,9 +91,7 @@ fields : (x y : EventLine) → text_of x ≡ text_of y → fields_of x ≡ field
 fields x y e = ap (λ (l : List ℕ). drop 2 l) e
 
 told_apart : (x y : EventLine) → InRange x → InRange y → text_of x ≡ text_of y → x ≡ y
-told_apart (Frame o) (Frame p) h k e =
-    let made : List ℕ → EventLine = λ items. Frame (record { items = items }) in
-    ap made (frame_apart o.items p.items h.small k.small (fields (Frame o) (Frame p) e))
+told_apart (Frame o) (Frame p) h k e = ap (λ (z : ArrayVec ℕ). Frame z) (octets_apart o p h k (frame_apart o.items p.items h.small k.small (fields (Frame o) (Frame p) e)))
 told_apart (Frame o) (Ticks n) h k e = let z : ⊥ = omega (arith, ap (λ (l : List ℕ). get_or l 0 0) e) in absurd z
 told_apart (Frame o) (Sampled t) h k e = let z : ⊥ = omega (arith, ap (λ (l : List ℕ). get_or l 0 0) e) in absurd z
 told_apart (Frame o) (Second n) h k e = let z : ⊥ = omega (arith, ap (λ (l : List ℕ). get_or l 0 0) e) in absurd z

@@ -33,12 +33,12 @@ uncut : (n : ℕ) → n < 2 ^ 64 → All (λ b. eqb b 32 ≡ false) (decimal n)
 uncut n h = All-from_get_or (λ b. eqb b 32 ≡ false) (decimal n) 0 (λ i l. apart (get_or (decimal n) i 0) (spaceless n h i l))
 
 -- the text of numbers is cut into their decimals
-pub pieces : (ns : List ℕ) → 0 < length ns → Small ns → slice_split (λ b. eqb b 32) (spaced ns) ≡ map decimal ns
-pieces [] h s = let z : ⊥ = omega arith in absurd z
-pieces (n ∷ []) h s = slice_split_none (λ b. eqb b 32) (decimal n) (uncut n s.0)
-pieces (n ∷ m ∷ ns) h s =
+pub cut_at_spaces : (ns : List ℕ) → 0 < length ns → Small ns → slice_split (λ b. eqb b 32) (spaced ns) ≡ map decimal ns
+cut_at_spaces [] h s = let z : ⊥ = omega arith in absurd z
+cut_at_spaces (n ∷ []) h s = slice_split_none (λ b. eqb b 32) (decimal n) (uncut n s.0)
+cut_at_spaces (n ∷ m ∷ ns) h s =
     slice_split_at (λ b. eqb b 32) (decimal n) 32 (spaced (m ∷ ns)) (uncut n s.0) refl
-    ∙ ap (λ (r : List (List ℕ)). decimal n ∷ r) (pieces (m ∷ ns) (omega arith) s.1)
+    ∙ ap (λ (r : List (List ℕ)). decimal n ∷ r) (cut_at_spaces (m ∷ ns) (omega arith) s.1)
 
 -- a number, a space and a rest
 pub split_first : (n : ℕ) (rest bs : List ℕ) (r : Option (Bor (List ℕ) × Bor (List ℕ))) → IsSplitOnceResult 32 bs r → n < 2 ^ 64 → decimal n ++ (32 ∷ rest) ≡ bs →
@@ -51,7 +51,7 @@ module _ (text : List ℕ) (n : ℕ) (some : 0 < n) where
 
   module _ (ns : List ℕ) (h : SoManyBytes n ns) (e : spaced ns ≡ text) where
     cut_into : parts ≡ map decimal ns
-    cut_into = ap (slice_split (λ b. eqb b 32)) (sym e) ∙ pieces ns (omega (arith, h.0)) (wider ns h.1)
+    cut_into = ap (slice_split (λ b. eqb b 32)) (sym e) ∙ cut_at_spaces ns (omega (arith, h.0)) (wider ns h.1)
 
     -- as many bytes have as many pieces
     pub as_many : length parts ≡ n
@@ -63,7 +63,7 @@ module _ (text : List ℕ) (n : ℕ) (some : 0 < n) where
         let in' : k < length ns = omega (arith, as_many, h.0) in
         (get_or ns k 0, All-get_or (λ b. b ≤ 255) ns k 0 in' h.1, sym (at ∙ ap (λ (ps : List (List ℕ)). get_or ps k piece) cut_into ∙ get_or-map decimal ns k 0 piece in'))
 
-  -- bytes whose decimals are the pieces, in an array where they are so many
+  -- bytes whose decimals are the cut_at_spaces, in an array where they are so many
   pub filled : {E : Type 0} (values : List ℕ) (r : Result (List ℕ) E) → map decimal values ≡ parts → Bytes values → IsOk r ↔ (length values ≡ n) → IfOk r (λ a. a ≡ values) →
       Reads (SoManyBytes n) spaced text (result_ok r)
   filled values (Ok a) e small many same =

@@ -57,7 +57,7 @@ impl Command<'_> {
     }
 }
 
-// The command of an op-code, with its words.
+// The command of an op-code, with its words: no `TryFrom`, since an op-code alone has none.
 fn named(opcode: u16, words: &[u8]) -> Command<'_>
     requires { Legal opcode words.now }
     ensures { said result ≡ record { opcode = opcode; words = words.now } }

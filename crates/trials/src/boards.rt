@@ -4,8 +4,8 @@ use codes::Report;
 use std::process::Abort;
 use std::test::Fail;
 
-// What is set on a board: a value and no closure, since a list of them stands in a constant and goes to boards of
-// different types.
+// What is set on a board: a value and no closure. Tried: a constant may hold no closures, and a local array of
+// functions over `&mut dyn Board` gets no proof.
 #[derive(Clone, Copy)]
 enum Setting {
     Supply(u8, u8),
@@ -34,12 +34,9 @@ const NOTHINGS: [Setting; 4] = [
     Setting::Line(255, LineState::On),
 ];
 
-const REFUSED: Report = Report {
-    layer: 6,
-    code: 0x70,
-    place: 0,
-    opcode: 0,
-};
+fn refused() -> Report {
+    Report::new(6, 0x70, 0, 0)
+}
 
 fn apply<B: Board>(board: &mut B, setting: Setting) -> Result<(), Fault> {
     match setting {
@@ -78,7 +75,7 @@ fn port_and_chain_agree(rt: HostRuntime) -> Result<(), Fail> {
 // The board refuses to set what its number does not name.
 fn refuses<B: Board>(rt: &impl Abort, board: &mut B, setting: Setting) {
     let refusal = apply(board, setting).err();
-    assert_eq!(rt; refusal.map(Report::from), Some(REFUSED));
+    assert_eq!(rt; refusal.map(Report::from), Some(refused()));
 }
 
 #[test]

@@ -11,7 +11,7 @@ use head::{CLOSE_ON_SAFE, Head, Records, defaults};
 use interlock::{Event, Shown, Step, bring, operate};
 use std::io;
 
-// Each program names its board in one place, and so does headrun.
+// Each program names its board in one place (docs/DECISIONS.md).
 type Driven = Crossed<PortBoard>;
 
 // As the board is found: some outputs are on, and so is bit 7 of the lines' port, which drives nothing.
