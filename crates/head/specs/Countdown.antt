@@ -19,3 +19,8 @@ less x = cond (nat_lt 1 x.left) (Some (record { what = x.what; left = x.left - 1
 abbrev pub lessened : {T : Type 0} → Option (Timed T) → Option (Timed T)
 lessened None = None
 lessened (Some x) = less x
+
+-- what is lost with its last tick
+abbrev pub lost : {T : Type 0} → Option (Timed T) → Option T
+lost None = None
+lost (Some x) = cond (nat_lt 1 x.left) None (Some x.what)

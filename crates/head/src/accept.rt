@@ -74,7 +74,8 @@ impl Core {
         self.meters.timer > 0 && self.parameters[OVERRIDE] == 0
     }
 
-    // The tests from the mode on.
+    // The tests from the mode on. In line, since request and answer would go through memory at each call.
+    #[inline(always)]
     fn allows(&self, request: Request) -> Result<(), Fault>
         ensures { result ≡ allowed self.now request }
     {

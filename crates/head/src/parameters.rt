@@ -46,7 +46,8 @@ pub(super) struct Range {
     pub(super) default: u8,
 }
 
-const PARAMETERS: [Range; 25] = [
+// A `static`: a `const` would be built anew where it is used.
+static PARAMETERS: [Range; 25] = [
     Range {
         lowest: 0,
         highest: 255,

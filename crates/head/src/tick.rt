@@ -1,6 +1,6 @@
 //! The tick: five milliseconds pass.
 ghost use Rattle.std.specs.Prelude.{◌≡◌, ◌+◌, ◌%◌};
-ghost use Rattle.head.specs.Countdown.{less};
+ghost use Rattle.head.specs.Countdown.{lessened, lost};
 ghost use Rattle.head.specs.Events.{ticked, sample_due, due_at};
 ghost use Rattle.head.specs.Logs.{tick_log};
 ghost use Rattle.head.specs.State.{state_of};
@@ -33,19 +33,17 @@ fn sample_due(tick: u8) -> bool
     tick % 20 == 0
 }
 
-impl<T: Copy> Timed<T> {
-    // One tick less, or none with the last.
-    fn after_tick(self) -> Option<Timed<T>>
-        ensures { result ≡ less self }
-    {
-        if self.left <= 1 {
-            return None;
-        }
-        Some(Timed {
-            left: self.left - 1,
-            ..self
-        })
+// One tick less of what may be there. With its last tick it is gone, and given back.
+fn lessen<T: Copy>(timed: &mut Option<Timed<T>>) -> Option<T>
+    ensures left { timed.new ≡ lessened timed.old }
+    ensures gone { result ≡ lost timed.old }
+{
+    let counting = timed.as_mut()?;
+    if counting.left > 1 {
+        counting.left -= 1;
+        return None;
     }
+    timed.take().map(|last| last.what)
 }
 
 impl<B: Board> Head<B> {
@@ -56,18 +54,15 @@ impl<B: Board> Head<B> {
         ensures noted { log.new ≡ tick_log self.old.core log.old }
     {
         self.core.meters.tick = following(self.core.meters.tick);
-        if let Some(waiting) = self.core.waiting {
-            self.core.waiting = waiting.after_tick();
-            if self.core.waiting.is_none() {
-                let late = Note::Late(waiting.what.opcode());
-                note(log, self.core.meters.time, late.into());
-            }
+        if let Some(order) = lessen(&mut self.core.waiting) {
+            note(
+                log,
+                self.core.meters.time,
+                Note::Late(order.opcode()).into(),
+            );
         }
-        if let Some(drive) = self.core.drive {
-            self.core.drive = drive.after_tick();
-            if self.core.drive.is_none() {
-                let _ = self.board.set_line(drive.what, LineState::Off);
-            }
+        if let Some(line) = lessen(&mut self.core.drive) {
+            let _ = self.board.set_line(line, LineState::Off);
         }
         Due {
             sample: sample_due(self.core.meters.tick),
