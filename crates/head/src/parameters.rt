@@ -2,6 +2,8 @@
 ghost use Rattle.std.specs.Prelude.{◌≡◌, ◌<◌};
 ghost use Rattle.head.specs.Parameters.{range_at, within, allowed, usuals};
 
+use std::array;
+
 // Indices and no enum: each use is an index into the 25 bytes, and would only be cast to one.
 
 pub(super) const NOMINAL_LEVEL: usize = 0;
@@ -196,9 +198,10 @@ impl Range {
 pub fn defaults() -> [u8; 25]
     ensures { result ≡ usuals }
 {
-    PARAMETERS.map(
-        |range| -> u8
-            ensures { result ≡ range.default }
-        { range.default },
+    array::from_fn(
+        |i| -> u8
+            requires { i < 25 }
+            ensures { result ≡ (range_at i).default }
+        { range_of(i).default },
     )
 }

@@ -1,5 +1,5 @@
 //! What a ring does: take a record, forget all, say how many it holds, give one by its age.
-ghost use Rattle.std.specs.Prelude.{◌≡◌, length};
+ghost use Rattle.std.specs.Prelude.{◌≡◌, ◌≤◌, length};
 ghost use Rattle.std.specs.List.{slice_get};
 ghost use Rattle.ring.specs.Rolls.{empty_roll, added, emptied};
 
@@ -26,14 +26,16 @@ impl<'a, T: Copy> Ring<'a, T> {
 
     /// How many records it holds.
     pub fn len(&self) -> usize
-        ensures { result ≡ length self.now.items }
+        ensures count { result ≡ length self.now.items }
+        ensures few { result ≤ self.now.room }
     {
         self.count
     }
 
     /// The record of an age, 0 being the newest, or none where fewer are held.
     pub fn get(&self, age: usize) -> Option<T>
-        ensures { result ≡ slice_get self.now.items age }
+        ensures found { result ≡ slice_get self.now.items age }
+        ensures few { length self.now.items ≤ self.now.room }
     {
         if age >= self.count {
             return None;

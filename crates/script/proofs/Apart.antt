@@ -1,5 +1,5 @@
 -- Values with one text are one value.
-use Rattle.std.proofs.Common.{◌≡◌, ℕ, ◌/◌, ◌%◌, ◌<◌, ◌≤◌, List, [], ◌∷◌, ◌++◌, map, eqb, length, get_or, take, drop, Some, None, IsUtf8, decimal, Option, Result, MatchResult, sym, refl, ap, ◌∙◌, arith, length-append, Bor}
+use Rattle.std.proofs.Common.{◌≡◌, ℕ, ◌-◌, ◌/◌, ◌%◌, ◌<◌, ◌≤◌, List, [], ◌∷◌, ◌++◌, map, eqb, length, get_or, take, drop, replicate, Some, None, IsUtf8, decimal, Option, Result, MatchResult, sym, refl, ap, ◌∙◌, arith, length-append, Bor}
 use Rattle.std.specs.List.{slice_split}
 use Rattle.std.specs.Result.{result_ok}
 use Rattle.std.proofs.lemmas.Result.{MatchResult-at_ok}
@@ -7,17 +7,18 @@ use Rattle.std.proofs.lemmas.Fmt.{decimal_injective}
 use Rattle.std.proofs.lemmas.List.{take_at, drop_at}
 use Rattle.std.proofs.lemmas.Str.Pattern.{IsSplitOnceResult}
 use Rattle.std.proofs.lemmas.Bool.Decides.{nat_tests}
-use Rattle.arrayvec.specs.ArrayVec.{ArrayVec}
 use Rattle.head.specs.declared.checks.Mark.{Mark}
 use Rattle.head.specs.declared.checks.Sample.{Sample}
 use Rattle.script.specs.Events.{letter_of, frame_field, fields_of, text_of, sample_bytes, SixBytes, MarkFits, InRange, Of, Only}
-use Rattle.script.specs.Hex.{hex_digit, hex, Sound}
+use Rattle.script.specs.Hex.{hex_digit, hex, octets_in, Sound}
 use Rattle.script.specs.Numbers.{spaced, Bytes}
 use Rattle.script.specs.Reading.{Reads}
 use Rattle.script.specs.declared.event.EventLine.{EventLine}
 use Rattle.script.specs.declared.event.EventLine.TheVariants.{Frame, Ticks, Sample as Sampled, Second}
+use Rattle.script.specs.declared.hexadecimal.Octets.{Octets}
 use Rattle.script.specs.declared.outcome.Kind.{Kind}
 use Rattle.script.proofs.Brought.{cut_line, line_reads}
+use Rattle.script.proofs.Digits.{places, held, small_in}
 use Rattle.script.proofs.Numerals.{ok_of}
 use Rattle.script.proofs.Fields.{Small, wider, cut_at_spaces}
 
@@ -57,10 +58,12 @@ frame_apart [] (b ∷ bs) p q e = let z : ⊥ = omega (arith, ap length e) in ab
 frame_apart (a ∷ cs) [] p q e = let z : ⊥ = omega (arith, ap length e) in absurd z
 frame_apart (a ∷ cs) (b ∷ bs) p q e = hex_apart (a ∷ cs) (b ∷ bs) p q e
 
-octets_apart : (o p : ArrayVec ℕ) → Sound o → Sound p → o.items ≡ p.items → o ≡ p
+octets_apart : (o p : Octets) → Sound o → Sound p → octets_in o ≡ octets_in p → o ≡ p
 octets_apart o p h k e =
-    let made : List ℕ → ArrayVec ℕ = λ items. record { items = items } in
-    ap made e
+    let n : o.count ≡ p.count = omega (arith, held o h, held p k, ap length e) in
+    let b : o.bytes ≡ p.bytes = places o h ∙ ap (λ (l : List ℕ). l ++ replicate (64 - o.count) 0) e ∙ ap (λ m. octets_in p ++ replicate (64 - m) 0) n ∙ sym (places p k) in
+    let made : List ℕ → ℕ → Octets = λ bytes count. record { bytes = bytes; count = count } in
+    ap (λ (l : List ℕ). made l o.count) b ∙ ap (λ m. made p.bytes m) n
 
 -- two lists in a row, cut where the first has its end
 halves : (a b c d : List ℕ) (n : ℕ) → length a ≡ n → length c ≡ n → a ++ b ≡ c ++ d → (a ≡ c) × (b ≡ d)
@@ -90,8 +93,9 @@ mark_apart m n h k e =
 fields : (x y : EventLine) → text_of x ≡ text_of y → fields_of x ≡ fields_of y
 fields x y e = ap (λ (l : List ℕ). drop 2 l) e
 
-told_apart : (x y : EventLine) → InRange x → InRange y → text_of x ≡ text_of y → x ≡ y
-told_apart (Frame o) (Frame p) h k e = ap (λ (z : ArrayVec ℕ). Frame z) (octets_apart o p h k (frame_apart o.items p.items h.small k.small (fields (Frame o) (Frame p) e)))
+pub told_apart : (x y : EventLine) → InRange x → InRange y → text_of x ≡ text_of y → x ≡ y
+told_apart (Frame o) (Frame p) h k e =
+    ap (λ (z : Octets). Frame z) (octets_apart o p h k (frame_apart (octets_in o) (octets_in p) (small_in o h) (small_in p k) (fields (Frame o) (Frame p) e)))
 told_apart (Frame o) (Ticks n) h k e = let z : ⊥ = omega (arith, ap (λ (l : List ℕ). get_or l 0 0) e) in absurd z
 told_apart (Frame o) (Sampled t) h k e = let z : ⊥ = omega (arith, ap (λ (l : List ℕ). get_or l 0 0) e) in absurd z
 told_apart (Frame o) (Second n) h k e = let z : ⊥ = omega (arith, ap (λ (l : List ℕ). get_or l 0 0) e) in absurd z

@@ -9,17 +9,18 @@ use Rattle.std.proofs.lemmas.Str.{IsAscii-append}
 use Rattle.std.proofs.lemmas.Bool.Decides.{nat_tests}
 use Rattle.head.specs.declared.checks.Mark.{Mark}
 use Rattle.script.specs.Events.{letter_of, kind_of, frame_field, fields_of, text_of, sample_bytes, MarkFits, InRange, Of}
-use Rattle.script.specs.Hex.{hex_digit, hex}
+use Rattle.script.specs.Hex.{hex_digit, hex, octets_in}
 use Rattle.script.specs.Numbers.{spaced, Bytes}
 use Rattle.script.specs.Reading.{Reads}
 use Rattle.script.specs.declared.event.EventLine.{EventLine}
 use Rattle.script.specs.declared.event.EventLine.TheVariants.{Frame, Ticks, Sample as Sampled, Second}
 use Rattle.script.specs.declared.outcome.Kind.{Kind}
 use Rattle.script.specs.declared.outcome.Kind.TheVariants.{PowerOn, Frame as OfFrame, Ticks as OfTicks, Sample as OfSample, Second as OfSecond}
+use Rattle.script.proofs.Digits.{small_in}
 use Rattle.script.proofs.Fields.{split_first, Small, wider}
 
 -- no ticks
-ticks_none : (m : ℕ) (text : List ℕ) → m ≡ 0 → decimal m ≡ text → (x : EventLine) → Of OfTicks x → fields_of x ≡ text → ⊥
+pub ticks_none : (m : ℕ) (text : List ℕ) → m ≡ 0 → decimal m ≡ text → (x : EventLine) → Of OfTicks x → fields_of x ≡ text → ⊥
 ticks_none m text z d (Frame o) h e = omega (arith, h.1)
 ticks_none m text z d (Ticks n) h e =
     let same = decimal_injective n m (omega (arith, h.0.1)) (omega arith) (e ∙ sym d) in
@@ -33,10 +34,10 @@ ticks_of n text true h d e = (((grind (arith, nat_tests), h), refl), d)
 ticks_of n text false h d e = ticks_none n text (grind (arith, nat_tests)) d
 
 -- a mark in two parts: the raw count, and the temperatures
-abbrev Parts : List ℕ → List ℕ → Type 0
+abbrev pub Parts : List ℕ → List ℕ → Type 0
 Parts first others = (m : Mark) × MarkFits m × (first ≡ decimal m.raw) × (others ≡ spaced m.temperatures)
 
-spaced_more : (n : ℕ) (ns : List ℕ) → 0 < length ns → spaced (n ∷ ns) ≡ decimal n ++ (32 ∷ spaced ns)
+pub spaced_more : (n : ℕ) (ns : List ℕ) → 0 < length ns → spaced (n ∷ ns) ≡ decimal n ++ (32 ∷ spaced ns)
 spaced_more n [] h = let z : ⊥ = omega arith in absurd z
 spaced_more n (m ∷ ns) h = refl
 
@@ -75,7 +76,7 @@ spaced_ascii (n ∷ m ∷ ns) h =
     IsAscii-append (decimal n) (32 ∷ spaced (m ∷ ns)) (IsAscii-decimal n h.0) (IsAscii-cons 32 (spaced (m ∷ ns)) (lit< tt) (spaced_ascii (m ∷ ns) h.1))
 
 fields_ascii : (x : EventLine) → InRange x → IsAscii (fields_of x)
-fields_ascii (Frame o) h = frame_ascii o.items h.small
+fields_ascii (Frame o) h = frame_ascii (octets_in o) (small_in o h)
 fields_ascii (Ticks n) h = IsAscii-decimal n (omega (arith, h.1))
 fields_ascii (Sampled s) h = spaced_ascii (sample_bytes s) (wider (sample_bytes s) h.small)
 fields_ascii (Second m) h = spaced_ascii (m.raw ∷ m.temperatures) (omega (arith, h.raw), wider m.temperatures h.small)

@@ -1,29 +1,30 @@
 -- A line that takes in chunks.
-use Rattle.std.proofs.Common.{◌≡◌, ℕ, ◌+◌, ◌<◌, ◌≤◌, Bool, true, false, eqb, List, [], ◌∷◌, ◌++◌, length, get_or, take, Some, None, Ok, Err, Option, Result, sym, refl, ap, ◌∙◌, subst, append-nil, append_assoc, ⊎_elim, arith, length-append}
-use Rattle.std.proofs.lemmas.Bool.{false≢true, eqb-true, cases_lt, lt-ltb, le-ltb}
-use Rattle.std.specs.Prelude.{IsOk, OnOk, ◌↔◌}
+use borrow.Rule.Slice.PartMut.{put_mid}
+use Rattle.std.proofs.Common.{◌≡◌, ℕ, ◌+◌, ◌-◌, ◌<◌, ◌≤◌, Bool, eqb, List, [], ◌∷◌, ◌++◌, length, get_or, take, drop, replicate, Some, None, Option, sym, refl, ap, ◌∙◌, subst, append-nil, append_assoc, ⊎_elim, arith, length-append}
+use Rattle.std.proofs.lemmas.Bool.{eqb-true, cases_lt, lt-ltb, le-ltb}
 use Rattle.std.specs.List.{position, position_or_len, before_first, after_first}
 use Rattle.std.specs.Option.{option_map, unwrap_or}
-use Rattle.std.specs.Result.{is_err}
 use Rattle.std.proofs.lemmas.Bool.Decides.{nat_tests}
-use Rattle.std.proofs.lemmas.List.{get_or-take, length-take, take_all}
+use Rattle.std.proofs.lemmas.List.{get_or-take, length-take, take_all, take-append-drop, drop-drop, drop-replicate, length-replicate}
+use Rattle.std.proofs.lemmas.Slice.{take-put_mid, drop-put_mid}
 use Rattle.std.proofs.lemmas.List.Sums.{fails_before_first, passes_at_first, split_at_first}
 use Rattle.std.proofs.ByRecursion.{All-from_get_or}
 use Rattle.script.specs.Lines.{onto, Feedless, Took}
+use Rattle.script.specs.Padded.{Padded}
 
 pub stays : (more : List ℕ) → onto None more ≡ None
 stays [] = refl
 stays (b ∷ more) = stays more
 
 -- more bytes that find room
-fits : (bs more : List ℕ) → length bs + length more ≤ 130 → onto (Some bs) more ≡ Some (bs ++ more)
+pub fits : (bs more : List ℕ) → length bs + length more ≤ 130 → onto (Some bs) more ≡ Some (bs ++ more)
 fits bs [] h = ap (λ (l : List ℕ). Some l) (sym (append-nil bs))
 fits bs (b ∷ more) h =
     rw (lt-ltb (length bs) 130 (omega arith))
     (fits (bs ++ b ∷ []) more (omega (arith, length-append bs (b ∷ []))) ∙ ap (λ (l : List ℕ). Some l) (append_assoc bs (b ∷ []) more))
 
 -- more bytes that find none
-overflows : (bs more : List ℕ) → length bs ≤ 130 → 130 < length bs + length more → onto (Some bs) more ≡ None
+pub overflows : (bs more : List ℕ) → length bs ≤ 130 → 130 < length bs + length more → onto (Some bs) more ≡ None
 overflows bs [] h g = let z : ⊥ = omega arith in absurd z
 overflows bs (b ∷ more) h g =
     ⊎_elim
@@ -31,18 +32,28 @@ overflows bs (b ∷ more) h g =
     (λ full. rw (le-ltb (length bs) 130 full) (stays more))
     (cases_lt (length bs) 130)
 
--- a call that appends all of the bytes, or none where they do not fit
+-- more bytes, put behind the first n of 130 places
+module _ (bytes more : List ℕ) (n k : ℕ) (all : k ≡ length more) (h : Padded bytes n) (room : n + length more ≤ 130) where
+  pub put_behind : take (n + length more) (put_mid n k bytes more) ≡ take n bytes ++ more
+  put_behind = take-put_mid n k bytes more (n + length more) refl (omega (arith, h.0, h.1))
 
-pub turned_down : {E : Type 0} (bs more : List ℕ) (r : Result (Unit {0}) E) → length bs ≤ 130 → IsOk r ↔ (length bs + length more ≤ 130) → is_err r ≡ true → None ≡ onto (Some bs) more
-turned_down bs more (Ok u) h fit e = absurd (false≢true e)
-turned_down bs more (Err d) h fit e =
-    let no : length bs + length more ≤ 130 → ⊥ = λ l. false≢true (fit.1 l) in
-    sym (overflows bs more h (omega arith))
+  zeros_behind : drop (n + length more) (put_mid n k bytes more) ≡ replicate (130 - (n + length more)) 0
+  zeros_behind =
+      let fewer : 130 - n - length more ≡ 130 - (n + length more) = omega arith in
+      drop-put_mid n k bytes more (n + length more) (omega (arith, all)) (omega (arith, h.0, h.1)) (sym all)
+      ∙ sym (drop-drop (length more) n bytes)
+      ∙ ap (λ (l : List ℕ). drop (length more) l) h.2
+      ∙ drop-replicate (length more) (130 - n) 0
+      ∙ ap (λ m. replicate m 0) fewer
 
-pub taken : {E : Type 0} (bs more after : List ℕ) (r : Result (Unit {0}) E) → IsOk r ↔ (length bs + length more ≤ 130) → is_err r ≡ false → OnOk r (after ≡ bs ++ more) →
-    Some after ≡ onto (Some bs) more
-taken bs more after (Ok u) fit e ok = ap (λ (l : List ℕ). Some l) ok ∙ sym (fits bs more (fit.0 refl))
-taken bs more after (Err d) fit e ok = absurd (false≢true (sym e))
+  pub still_padded : Padded (put_mid n k bytes more) (n + length more)
+  still_padded =
+      let whole = take-append-drop (n + length more) (put_mid n k bytes more) in
+      let first = length-append (take n bytes) more in
+      let last = length-append (take n bytes ++ more) (replicate (130 - (n + length more)) 0) in
+      let parts : put_mid n k bytes more ≡ (take n bytes ++ more) ++ replicate (130 - (n + length more)) 0 =
+      sym whole ∙ ap (λ (l : List ℕ). l ++ drop (n + length more) (put_mid n k bytes more)) put_behind ∙ ap (λ (l : List ℕ). (take n bytes ++ more) ++ l) zeros_behind in
+      (omega (arith, ap length parts, last, first, length-take n bytes, length-replicate {A = ℕ} (130 - (n + length more)) 0, h.0, h.1), room, zeros_behind)
 
 -- a chunk up to its first line feed
 

@@ -16,7 +16,7 @@ use Rattle.script.specs.Reading.{Reads}
 use Rattle.script.proofs.Numerals.{own}
 
 -- a decimal holds no space
-spaceless : (n : ℕ) → n < 2 ^ 64 → (i : ℕ) → i < length (decimal n) → get_or (decimal n) i 0 ≡ 32 → ⊥
+pub spaceless : (n : ℕ) → n < 2 ^ 64 → (i : ℕ) → i < length (decimal n) → get_or (decimal n) i 0 ≡ 32 → ⊥
 spaceless n h = not_in_digits own (decimal n) 32 (digits_decimal own n h) (λ b. omega (arith, b.0))
 
 -- numbers of up to 64 bits, of which bytes are

@@ -1,27 +1,28 @@
 -- More laws of digits, fields and lines, which no proof of this repository cites.
-use Rattle.std.specs.Prelude.{◌≢◌, MatchBool}
-use Rattle.std.proofs.Common.{◌≡◌, ℕ, zero, suc, ◌+◌, ◌-◌, ◌*◌, ◌/◌, ◌%◌, ◌^◌, ◌<◌, ◌≤◌, min, Bool, true, false, cond, List, [], ◌∷◌, ◌++◌, length, get_or, take, drop, set, replicate, Some, None, Ok, decimal, Option, Result, sym, refl, ap, ◌∙◌, subst, ⊎_elim, append-nil, append_assoc, arith, lit<, length-append, Bor, MatchOption}
+use Rattle.std.specs.Prelude.{◌≢◌, MatchBool, IsOk, OnOk, ◌↔◌}
+use Rattle.std.proofs.Common.{◌≡◌, ℕ, zero, suc, ◌+◌, ◌-◌, ◌*◌, ◌/◌, ◌%◌, ◌^◌, ◌<◌, ◌≤◌, min, Bool, true, false, cond, List, [], ◌∷◌, ◌++◌, length, get_or, take, drop, set, Some, None, Ok, Err, decimal, Option, Result, sym, refl, ap, ◌∙◌, subst, ⊎_elim, append-nil, append_assoc, arith, lit<, length-append, Bor, MatchOption}
 use borrow.Rule.Slice.PartMut.{put_mid}
-use Rattle.std.specs.Result.{result_ok}
+use Rattle.std.specs.Result.{result_ok, is_err}
 use Rattle.std.specs.Str.Parse.{ParsesUnsigned}
 use Rattle.std.proofs.ByRecursion.{All-get_or}
-use Rattle.std.proofs.lemmas.Bool.{cases_lt, lt-ltb, le-ltb}
-use Rattle.std.proofs.lemmas.List.{take_more, take_more_set, take_all, length-take, drop_all, drop-set-lt, drop-drop, drop-replicate}
+use Rattle.std.proofs.lemmas.Bool.{false≢true, cases_lt, lt-ltb, le-ltb}
+use Rattle.std.proofs.lemmas.List.{take_more, take_more_set, take_all, length-take, drop_all}
 use Rattle.std.proofs.lemmas.Str.Pattern.{IsSplitOnceResult, split_after}
-use Rattle.arrayvec.specs.ArrayVec.{ArrayVec, array_vec_len}
 use Rattle.head.specs.declared.checks.Sample.{Sample}
 use Rattle.script.specs.Events.{letter_of, kind_of, fields_of, text_of, sample_bytes, InRange, Of, Only}
-use Rattle.script.specs.Hex.{hex_digit, octet_text, hex, Filling}
-use Rattle.script.specs.Lines.{with_byte}
+use Rattle.script.specs.Hex.{hex_digit, octet_text, hex, octets_in, Filling}
+use Rattle.script.specs.Lines.{with_byte, onto}
 use Rattle.script.specs.Numbers.{plain, spaced, Bytes}
 use Rattle.script.specs.Reading.{Reads}
 use Rattle.script.specs.declared.event.EventLine.{EventLine}
+use Rattle.script.specs.declared.hexadecimal.Octets.{Octets}
 use Rattle.script.specs.declared.event.EventLine.TheVariants.{Frame, Ticks, Sample as Sampled, Second}
 use Rattle.script.specs.declared.outcome.Kind.{Kind}
 use Rattle.script.specs.declared.outcome.Kind.TheVariants.{PowerOn, Frame as OfFrame, Ticks as OfTicks, Sample as OfSample, Second as OfSecond}
 use Rattle.script.proofs.Apart.{only}
 use Rattle.script.proofs.Brought.{cut_line, line_reads}
-use Rattle.script.proofs.Digits.{length_hex}
+use Rattle.script.proofs.Chunks.{fits, overflows}
+use Rattle.script.proofs.Digits.{length_hex, held, small_in}
 use Rattle.script.proofs.Fields.{split_first}
 use Rattle.script.proofs.Numerals.{ok_of, read_below, reads_some}
 
@@ -49,16 +50,6 @@ hex_more bytes text i v h g e f =
     ∙ ap (λ (l : List ℕ). take (2 * i) text ++ l) f
     ∙ sym (two_more text i g)
 
--- the places behind stay zero
-pub rest_more : (bytes : List ℕ) (i v n : ℕ) → drop i bytes ≡ replicate (n - i) 0 → drop (i + 1) (set bytes i v) ≡ replicate (n - (i + 1)) 0
-rest_more bytes i v n e =
-    let s : n - i - 1 ≡ n - (i + 1) = omega arith in
-    drop-set-lt (i + 1) bytes i v (omega arith)
-    ∙ sym (drop-drop 1 i bytes)
-    ∙ ap (λ (l : List ℕ). drop 1 l) e
-    ∙ drop-replicate 1 (n - i) 0
-    ∙ ap (λ k. replicate k 0) s
-
 -- the two digits of an octet, by its place
 pub hex_at : (bs : List ℕ) (i : ℕ) → i < length bs → octet_text (get_or bs i 0) ≡ get_or (hex bs) (2 * i) 0 ∷ get_or (hex bs) (2 * i + 1) 0 ∷ []
 hex_at [] i h = let z : ⊥ = omega arith in absurd z
@@ -69,17 +60,17 @@ hex_at (b ∷ bs) (suc i) h =
     rw (t, s) (hex_at bs i (omega arith))
 
 -- how many octets a text writes
-pub counted : (o : ArrayVec ℕ) (text : List ℕ) → Filling o → hex o.items ≡ text → (length text ≡ 2 * array_vec_len o) × (1 ≤ array_vec_len o) × (array_vec_len o ≤ 64)
-counted o text h e = (omega (arith, ap length e, length_hex o.items), h.1, h.0.few)
+pub counted : (o : Octets) (text : List ℕ) → Filling o → hex (octets_in o) ≡ text → (length text ≡ 2 * o.count) × (1 ≤ o.count) × (o.count ≤ 64)
+counted o text h e = (omega (arith, ap length e, length_hex (octets_in o), held o h.0), h.1, h.0.few)
 
 -- where two digits write no octet, the text writes none
-pub none_at : (o : ArrayVec ℕ) (text : List ℕ) (i : ℕ) → 2 * i + 1 < length text →
-    ((b : ℕ) → b ≤ 255 → octet_text b ≡ get_or text (2 * i) 0 ∷ get_or text (2 * i + 1) 0 ∷ [] → ⊥) → Filling o → hex o.items ≡ text → ⊥
+pub none_at : (o : Octets) (text : List ℕ) (i : ℕ) → 2 * i + 1 < length text →
+    ((b : ℕ) → b ≤ 255 → octet_text b ≡ get_or text (2 * i) 0 ∷ get_or text (2 * i + 1) 0 ∷ [] → ⊥) → Filling o → hex (octets_in o) ≡ text → ⊥
 none_at o text i lt none h e =
     let n = counted o text h e in
-    let in' : i < length o.items = omega (arith, n.0) in
-    none (get_or o.items i 0) (All-get_or (λ b. b ≤ 255) o.items i 0 in' h.0.small)
-    (hex_at o.items i in' ∙ ap (λ (t : List ℕ). get_or t (2 * i) 0 ∷ get_or t (2 * i + 1) 0 ∷ []) e)
+    let in' : i < length (octets_in o) = omega (arith, n.0, held o h.0) in
+    none (get_or (octets_in o) i 0) (All-get_or (λ b. b ≤ 255) (octets_in o) i 0 in' (small_in o h.0))
+    (hex_at (octets_in o) i in' ∙ ap (λ (t : List ℕ). get_or t (2 * i) 0 ∷ get_or t (2 * i + 1) 0 ∷ []) e)
 
 -- fields of bytes
 
@@ -230,3 +221,16 @@ pushed bs n b false l h =
 pub refused : (bs : List ℕ) (n b : ℕ) (o : Bool) → length bs ≡ 130 → 130 ≤ n → None ≡ with_byte (cond o None (Some (take n bs))) b
 refused bs n b true l h = refl
 refused bs n b false l h = rw (le-ltb (length (take n bs)) 130 (omega (arith, length-take n bs))) refl
+
+-- a call that appends all of the bytes, or none where they do not fit
+
+pub turned_down : {E : Type 0} (bs more : List ℕ) (r : Result (Unit {0}) E) → length bs ≤ 130 → IsOk r ↔ (length bs + length more ≤ 130) → is_err r ≡ true → None ≡ onto (Some bs) more
+turned_down bs more (Ok u) h fit e = absurd (false≢true e)
+turned_down bs more (Err d) h fit e =
+    let no : length bs + length more ≤ 130 → ⊥ = λ l. false≢true (fit.1 l) in
+    sym (overflows bs more h (omega arith))
+
+pub taken : {E : Type 0} (bs more after : List ℕ) (r : Result (Unit {0}) E) → IsOk r ↔ (length bs + length more ≤ 130) → is_err r ≡ false → OnOk r (after ≡ bs ++ more) →
+    Some after ≡ onto (Some bs) more
+taken bs more after (Ok u) fit e ok = ap (λ (l : List ℕ). Some l) ok ∙ sym (fits bs more (fit.0 refl))
+taken bs more after (Err d) fit e ok = absurd (false≢true (sym e))

@@ -9,7 +9,7 @@ pub bit_le : (b : Bool) → bool_byte b ≤ 1
 bit_le true = omega arith
 bit_le false = omega arith
 
-sum_lt : (bs : List Bool) (k : ℕ) → length bs ≤ k → sum_of_bits bs < 2 ^ k
+pub sum_lt : (bs : List Bool) (k : ℕ) → length bs ≤ k → sum_of_bits bs < 2 ^ k
 sum_lt [] zero h = omega arith
 sum_lt [] (suc k) h = omega (arith, pow-succ' 2 k, sum_lt [] k (omega arith))
 sum_lt (b ∷ bs) zero h = let z : ⊥ = omega arith in absurd z

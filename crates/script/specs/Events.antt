@@ -2,7 +2,7 @@
 use Rattle.std.specs.Prelude.{◌≡◌, ℕ, ◌^◌, ◌<◌, ◌≤◌, List, [], ◌∷◌, ◌++◌, length, IfSome, decimal, Option}
 use Rattle.head.specs.declared.checks.Mark.{Mark}
 use Rattle.head.specs.declared.checks.Sample.{Sample}
-use Rattle.script.specs.Hex.{hex, Sound}
+use Rattle.script.specs.Hex.{hex, octets_in, Sound}
 use Rattle.script.specs.Numbers.{spaced, Bytes}
 use Rattle.script.specs.declared.event.EventLine.{EventLine}
 use Rattle.script.specs.declared.event.EventLine.TheVariants.{Frame, Ticks, Sample as Sampled, Second}
@@ -35,7 +35,7 @@ sample_bytes s = s.plate ++ (s.strip ++ s.anode)
 
 -- what follows the letter and a space
 abbrev pub fields_of : EventLine → List ℕ
-fields_of (Frame o) = frame_field o.items
+fields_of (Frame o) = frame_field (octets_in o)
 fields_of (Ticks n) = decimal n
 fields_of (Sampled s) = spaced (sample_bytes s)
 fields_of (Second m) = spaced (m.raw ∷ m.temperatures)

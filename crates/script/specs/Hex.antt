@@ -1,8 +1,8 @@
 -- Octets in capital hexadecimal.
-use Rattle.std.specs.Prelude.{ℕ, ◌+◌, ◌/◌, ◌%◌, ◌<◌, ◌≤◌, cond, List, [], ◌∷◌, nat_lt}
+use Rattle.std.specs.Prelude.{◌≡◌, ℕ, ◌+◌, ◌-◌, ◌/◌, ◌%◌, ◌<◌, ◌≤◌, cond, List, [], ◌∷◌, length, take, drop, replicate, nat_lt}
 use Rattle.std.specs.List.{flat_map}
-use Rattle.arrayvec.specs.ArrayVec.{ArrayVec, array_vec_len}
 use Rattle.script.specs.Numbers.{Bytes}
+use Rattle.script.specs.declared.hexadecimal.Octets.{Octets}
 
 -- the capital digit of a number below 16
 abbrev pub hex_digit : ℕ → ℕ
@@ -16,11 +16,17 @@ octet_text b = hex_digit (b / 16) ∷ hex_digit (b % 16) ∷ []
 abbrev pub hex : List ℕ → List ℕ
 hex bs = flat_map octet_text bs
 
--- at most 64 octets, a byte each
-pub record Sound (o : ArrayVec ℕ) : Type 0 where
-  pub few : array_vec_len o ≤ 64
-  pub small : Bytes o.items
+-- the octets that are held
+abbrev pub octets_in : Octets → List ℕ
+octets_in o = take o.count o.bytes
+
+-- 64 places of a byte each, zero after the octets that are held
+pub record Sound (o : Octets) : Type 0 where
+  pub room : length o.bytes ≡ 64
+  pub few : o.count ≤ 64
+  pub small : Bytes o.bytes
+  pub rest : drop o.count o.bytes ≡ replicate (64 - o.count) 0
 
 -- the same, with at least one octet
-abbrev pub Filling : ArrayVec ℕ → Type 0
-Filling o = Sound o × (0 < array_vec_len o)
+abbrev pub Filling : Octets → Type 0
+Filling o = Sound o × (0 < o.count)

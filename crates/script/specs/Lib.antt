@@ -3,4 +3,5 @@ pub mod Numbers
 pub mod Hex
 pub mod Events
 pub mod Outcomes
+pub mod Padded
 pub mod Lines

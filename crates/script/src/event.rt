@@ -5,19 +5,18 @@ ghost use Rattle.script.specs.Reading.{Reads};
 ghost use Rattle.script.specs.declared.outcome.Kind.TheVariants.{Frame as OfFrame, Ticks as OfTicks, Sample as OfSample, Second as OfSecond};
 
 use super::decimals::{bytes, number, short};
-use super::hexadecimal::{MOST, read_octets};
+use super::hexadecimal::{MOST, Octets, read_octets};
 use super::outcome::Kind;
-use arrayvec::ArrayVec;
 use head::{Mark, Sample};
 use std::str::from_utf8;
 
 // A value and no closure: contracts speak of it.
 
 /// What an event line brings to a head.
-#[derive(Clone, Drop)]
+#[derive(Clone, Copy)]
 pub enum EventLine {
     /// A frame: octets on the primary link, none for an empty one.
-    Frame(ArrayVec<u8, MOST>),
+    Frame(Octets),
     /// So many ticks, one after the other, at least one.
     Ticks(u16),
     /// A high-voltage sample.
@@ -45,7 +44,10 @@ fn frame(fields: &str) -> Option<EventLine>
     ensures { Reads (Of OfFrame) fields_of fields.now result }
 {
     let octets = if fields == "-" {
-        ArrayVec::new()
+        Octets {
+            bytes: [0; MOST],
+            count: 0,
+        }
     } else {
         read_octets(fields.as_bytes())?
     };

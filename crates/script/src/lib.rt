@@ -9,5 +9,6 @@ mod outcome;
 
 pub use decimals::count;
 pub use event::{EventLine, event_line};
+pub use hexadecimal::Octets;
 pub use line::LineBuffer;
 pub use outcome::{BadLine, Kind, Outcome};

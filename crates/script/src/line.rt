@@ -3,28 +3,35 @@ ghost use Rattle.std.specs.Prelude.{◌≡◌, [], Some};
 ghost use Rattle.std.specs.Option.{option_map};
 ghost use Rattle.script.specs.Lines.{onto, Took};
 
-use arrayvec::ArrayVec;
 use std::marker::Model;
 
 /// The longest legal line: `F`, a space and 64 octets.
 const LONGEST: usize = 130;
 
-/// A line as far as it has come, or none where it is longer than the longest legal line.
-#[derive(Clone, Drop)]
+// An array and a count, and no `ArrayVec`: a value of that type cannot be copied.
+
+/// A line as far as it has come: so many of the bytes, or none where it is longer than the longest legal line. The
+/// other bytes are zero.
+#[derive(Clone, Copy)]
 pub struct LineBuffer {
-    kept: Option<ArrayVec<u8, LONGEST>>,
+    bytes: [u8; LONGEST],
+    count: Option<usize>,
 }
 
 impl Model for LineBuffer {
-    ghost use Rattle.std.specs.Prelude.{ℕ, ◌≤◌, List, length, Option};
-    ghost use Rattle.std.specs.Option.{option_map, ForSome};
-    ghost use Rattle.script.specs.declared.line.TheConstants.{LONGEST};
+    ghost use Rattle.std.specs.Prelude.{ℕ, List, [], length, take, Option};
+    ghost use Rattle.std.specs.Option.{option_map, unwrap_or};
+    ghost use Rattle.script.specs.Padded.{Padded, padded, gives_back};
 
     ghost Value = { Option (List ℕ) };
 
-    ghost view = { λ l. option_map (λ bytes. bytes.items) l.kept };
+    ghost view = { λ l. option_map (λ n. take n l.bytes) l.count };
 
-    ghost invariant = { λ l. ForSome l.kept (λ bytes. length bytes.items ≤ LONGEST) };
+    ghost invariant = { λ l. Padded l.bytes (unwrap_or l.count 0) };
+
+    ghost inverse = { λ line. record { bytes = padded (unwrap_or line []); count = option_map length line } };
+
+    ghost inverse_ok = { λ l h. gives_back (λ bytes count. record { bytes = bytes; count = count }) l.bytes l.count h };
 }
 
 impl LineBuffer {
@@ -33,7 +40,8 @@ impl LineBuffer {
         ensures { result ≡ Some [] }
     {
         LineBuffer {
-            kept: Some(ArrayVec::new()),
+            bytes: [0; LONGEST],
+            count: Some(0),
         }
     }
 
@@ -41,11 +49,16 @@ impl LineBuffer {
     fn extend(&mut self, more: &[u8])
         ensures { self.new ≡ onto self.old more.now }
     {
-        if let Some(kept) = &mut self.kept {
-            if kept.try_extend_from_slice(more).is_err() {
-                self.kept = None;
-            }
+        let Some(count) = self.count else {
+            return;
+        };
+        if more.len() > LONGEST - count {
+            self.bytes = [0; LONGEST];
+            self.count = None;
+            return;
         }
+        self.bytes[count..count + more.len()].copy_from_slice(more);
+        self.count = Some(count + more.len());
     }
 
     /// Takes what a chunk has of the line, up to a line feed. Where one ends the line, this is how many bytes of the
@@ -62,6 +75,7 @@ impl LineBuffer {
     pub fn text(&self) -> Option<&[u8]>
         ensures { option_map (λ x. x.now) result ≡ self.now }
     {
-        self.kept.as_ref().map(|kept| kept.as_slice())
+        let count = self.count?;
+        Some(&self.bytes[..count])
     }
 }

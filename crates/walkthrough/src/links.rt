@@ -2,7 +2,6 @@
 use super::narration::{paragraph, show_octets};
 use super::stop::Stop;
 use codes::Report;
-use std::alloc::{AllocError, Global};
 use std::io;
 use telecommand::{Command, ReadFault, choose, read, set_aside};
 
@@ -71,13 +70,11 @@ fn show_links(rt: &HostRuntime, primary: &[u8], redundant: &[u8]) -> Result<(), 
     Ok(())
 }
 
-/// The frame as it comes over a line with noise: octet 1 is another.
-pub fn damaged(heap: Global, frame: &[u8]) -> Result<Vec<u8>, AllocError> {
-    let mut link = frame.to_vec(heap)?;
-    if let Some(octet) = link.get_mut(1) {
+/// What noise on a line does to a frame: octet 1 is another.
+pub fn damage(frame: &mut [u8]) {
+    if let Some(octet) = frame.get_mut(1) {
         *octet = 0x41;
     }
-    Ok(link)
 }
 
 // The release that stands on the links.
@@ -96,7 +93,8 @@ pub fn take_release(rt: &HostRuntime, firing: &[u8]) -> Result<(), Stop> {
         rt,
         &["The first frame is sent on both links. Noise meets it on the primary."],
     )?;
-    let link = damaged(rt.alloc(), firing)?;
+    let mut link = firing.to_vec(rt.alloc())?;
+    damage(&mut link);
     show_links(rt, &link, firing)?;
     show_release(rt, &link, firing)
 }

@@ -129,7 +129,7 @@ fn show_port(
 
 /// Powers a head on, brings it the steps and the ticks of the door, and shows its log.
 pub fn operate_head(rt: &HostRuntime) -> Result<(), Stop> {
-    let frames = Frames::written(rt.alloc())?;
+    let frames = Frames::written()?;
     let planned = plan(&frames);
     let mut steps = planned.map(|plan| Step::new(plan.event));
     let mut entries = [Entry::default(); 8];

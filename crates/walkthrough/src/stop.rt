@@ -8,7 +8,7 @@ use thiserror::Error;
 pub enum Stop {
     #[error("nothing can be printed: {0}")]
     Print(#[from] io::Error),
-    #[error("there is no memory for a frame, a link or an answer")]
+    #[error("there is no memory for a link or an answer")]
     Memory,
     #[error("what is on the links is no command: {0}")]
     Read(#[from] ReadFault),
