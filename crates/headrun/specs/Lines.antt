@@ -5,6 +5,7 @@ use Rattle.head.specs.State.{State}
 use Rattle.interlock.specs.Events.{Event, tick, frame, sample, mark, not_due, reading}
 use Rattle.interlock.specs.Runs.{next, shown_of, records_after}
 use Rattle.interlock.specs.declared.step.Shown.{Shown}
+use Rattle.script.specs.Hex.{octets_in}
 use Rattle.script.specs.declared.event.EventLine.{EventLine}
 use Rattle.script.specs.declared.event.EventLine.TheVariants.{Frame, Ticks, Sample, Second}
 use Rattle.script.specs.declared.outcome.Kind.{Kind}
@@ -13,7 +14,7 @@ use Rattle.script.specs.declared.outcome.Outcome.{Outcome}
 
 -- the event of a line; a frame is on the primary link, and the redundant is empty
 abbrev pub event_in : EventLine → Event
-event_in (Frame o) = frame o.items []
+event_in (Frame o) = frame (octets_in o) []
 event_in (Ticks n) = tick
 event_in (Sample x) = sample x
 event_in (Second x) = mark x
