@@ -5,4 +5,5 @@ pub mod Brought
 pub mod Digits
 pub mod Sums
 pub mod Apart
+pub mod Longest
 pub mod More
