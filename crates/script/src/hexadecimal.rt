@@ -1,5 +1,5 @@
 //! Octets in capital hexadecimal, two digits to each, without gaps.
-ghost use Rattle.std.specs.Prelude.{◌≡◌, ◌<◌, ◌≤◌, [], ◌∷◌};
+ghost use Rattle.std.specs.Prelude.{◌≡◌, ◌<◌, ◌≤◌, ◌+◌, [], ◌∷◌, slice_set};
 ghost use Rattle.script.specs.Hex.{hex_digit, octet_text, hex, octets_in, Filling};
 ghost use Rattle.script.specs.Reading.{Reads};
 
@@ -16,6 +16,15 @@ pub struct Octets {
 }
 
 impl Octets {
+    // One octet more.
+    fn push(&mut self, octet: u8)
+        requires { self.old.count < 64 }
+        ensures { self.new ≡ record { bytes = slice_set self.old.bytes self.old.count octet; count = self.old.count + 1 } }
+    {
+        self.bytes[self.count] = octet;
+        self.count += 1;
+    }
+
     /// The octets, to look at.
     pub fn as_slice(&self) -> &[u8]
         ensures { result.now ≡ octets_in self.now }
@@ -53,12 +62,12 @@ pub(super) fn read_octets(text: &[u8]) -> Option<Octets>
     if pairs.is_empty() || pairs.len() > MOST {
         return None;
     }
-    let mut bytes = [0; MOST];
-    for (place, [high, low]) in pairs.iter().enumerate() {
-        bytes[place] = octet(*high, *low)?;
+    let mut octets = Octets {
+        bytes: [0; MOST],
+        count: 0,
+    };
+    for [high, low] in pairs {
+        octets.push(octet(*high, *low)?);
     }
-    Some(Octets {
-        bytes,
-        count: pairs.len(),
-    })
+    Some(octets)
 }
