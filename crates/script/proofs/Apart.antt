@@ -70,7 +70,7 @@ halves : (a b c d : List ℕ) (n : ℕ) → length a ≡ n → length c ≡ n �
 halves a b c d n l m e =
     (sym (take_at a b n l) ∙ ap (λ (k : List ℕ). take n k) e ∙ take_at c d n m, sym (drop_at a b n l) ∙ ap (λ (k : List ℕ). drop n k) e ∙ drop_at c d n m)
 
-pub six : (s : Sample) → SixBytes s → length (sample_bytes s) ≡ 6
+six : (s : Sample) → SixBytes s → length (sample_bytes s) ≡ 6
 six s h = omega (arith, length-append s.plate (s.strip ++ s.anode), length-append s.strip s.anode, h.plates, h.strips, h.anodes)
 
 sample_apart : (s t : Sample) → SixBytes s → SixBytes t → spaced (sample_bytes s) ≡ spaced (sample_bytes t) → s ≡ t

@@ -1,8 +1,8 @@
 -- Octets and their digits.
-use Rattle.std.proofs.Common.{◌≡◌, ℕ, zero, suc, ◌+◌, ◌-◌, ◌*◌, ◌/◌, ◌%◌, ◌<◌, ◌≤◌, Some, List, [], ◌∷◌, ◌++◌, map, length, get_or, take, drop, set, replicate, sym, refl, ap, ◌∙◌, arith, length-drop, length-set}
+use Rattle.std.proofs.Common.{◌≡◌, ℕ, zero, suc, ◌+◌, ◌-◌, ◌*◌, ◌/◌, ◌%◌, ◌<◌, ◌≤◌, Some, List, [], ◌∷◌, ◌++◌, map, length, get_or, take, drop, set, replicate, sym, refl, ap, ◌∙◌, arith, length-drop}
 use Rattle.std.specs.List.{concat}
 use Rattle.std.specs.Simd.{first_chunks}
-use Rattle.std.proofs.ByRecursion.{All-get_or, All-take, All-set}
+use Rattle.std.proofs.ByRecursion.{All-get_or, All-take}
 use Rattle.std.proofs.lemmas.List.{get_or-map, length-map, length-take, map-append, take_more, take_more_set, take-append-drop, drop-set-lt, drop-drop, drop-replicate}
 use Rattle.script.specs.Hex.{octet_text, hex, octets_in, Sound, Filling}
 use Rattle.script.specs.Numbers.{Bytes}
@@ -32,15 +32,6 @@ rest_more bytes i v n e =
     ∙ ap (λ (l : List ℕ). drop 1 l) e
     ∙ drop-replicate 1 (n - i) 0
     ∙ ap (λ k. replicate k 0) s
-
--- octets and one more
-pub pushed_sound : (o : Octets) (b : ℕ) → Sound o → o.count < 64 → b ≤ 255 → Sound (record { bytes = set o.bytes o.count b; count = o.count + 1 })
-pushed_sound o b h room small = record {
-  room = length-set o.bytes o.count b ∙ h.room;
-  few = omega arith;
-  small = All-set (λ n. n ≤ 255) o.bytes o.count b small h.small;
-  rest = rest_more o.bytes o.count b 64 h.rest;
-}
 
 -- the text of octets is cut into the two digits of each
 cut_in_pairs : (bs : List ℕ) → first_chunks 2 (length bs) (hex bs) ≡ map octet_text bs

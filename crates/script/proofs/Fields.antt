@@ -1,11 +1,11 @@
 -- Fields of a line: numbers with one space between two.
-use Rattle.std.proofs.Common.{◌≡◌, ℕ, ◌^◌, ◌<◌, ◌≤◌, false, eqb, List, [], ◌∷◌, ◌++◌, map, length, get_or, decimal, Option, Result, Ok, Err, sym, refl, ap, ◌∙◌, subst, arith, lit<, Bor, MatchOption}
+use Rattle.std.proofs.Common.{◌≡◌, ℕ, ◌*◌, ◌^◌, ◌<◌, ◌≤◌, false, eqb, List, [], ◌∷◌, ◌++◌, map, length, get_or, decimal, Option, Result, Ok, Err, sym, refl, ap, ◌∙◌, subst, arith, lit<, length-append, Bor, MatchOption}
 use Rattle.std.specs.Prelude.{IfOk, IsOk, ◌↔◌}
 use Rattle.std.specs.Result.{result_ok}
 use Rattle.std.proofs.lemmas.List.{get_or-map, length-map}
 use Rattle.std.specs.List.{All, AllByRecursion, slice_split, join_with_byte}
 use Rattle.std.proofs.lemmas.Str.Parse.{not_in_digits}
-use Rattle.std.proofs.lemmas.Fmt.{digits_decimal}
+use Rattle.std.proofs.lemmas.Fmt.{digits_decimal, length-decimal-le}
 use Rattle.std.proofs.lemmas.List.Elements.{All-from_get_or}
 use Rattle.std.proofs.lemmas.List.Splits.{slice_split_none, slice_split_at, join_with_byte-slice_split}
 use Rattle.std.proofs.lemmas.Str.Pattern.{IsSplitOnceResult, split_after}
@@ -19,6 +19,9 @@ use Rattle.script.proofs.Numerals.{own}
 pub spaceless : (n : ℕ) → n < 2 ^ 64 → (i : ℕ) → i < length (decimal n) → get_or (decimal n) i 0 ≡ 32 → ⊥
 spaceless n h = not_in_digits own (decimal n) 32 (digits_decimal own n h) (λ b. omega (arith, b.0))
 
+three : (n : ℕ) → n ≤ 255 → length (decimal n) ≤ 3
+three n h = length-decimal-le 3 n (omega arith) (omega arith) (omega arith)
+
 -- numbers of up to 64 bits, of which bytes are
 abbrev pub Small : List ℕ → Type 0
 Small ns = AllByRecursion (λ n. n < 2 ^ 64) ns
@@ -31,6 +34,12 @@ apart b h = grind (arith, nat_tests)
 
 uncut : (n : ℕ) → n < 2 ^ 64 → All (λ b. eqb b 32 ≡ false) (decimal n)
 uncut n h = All-from_get_or (λ b. eqb b 32 ≡ false) (decimal n) 0 (λ i l. apart (get_or (decimal n) i 0) (spaceless n h i l))
+
+-- a byte has three digits at most, and a space parts two
+pub spaced_long : (ns : List ℕ) → Bytes ns → length (spaced ns) ≤ 4 * length ns
+spaced_long [] h = omega arith
+spaced_long (n ∷ []) h = omega (arith, three n h.0)
+spaced_long (n ∷ m ∷ ns) h = omega (arith, three n h.0, length-append (decimal n) (32 ∷ spaced (m ∷ ns)), spaced_long (m ∷ ns) h.1)
 
 -- the text of numbers is cut into their decimals
 pub cut_at_spaces : (ns : List ℕ) → 0 < length ns → Small ns → slice_split (λ b. eqb b 32) (spaced ns) ≡ map decimal ns

@@ -5,5 +5,4 @@ pub mod Brought
 pub mod Digits
 pub mod Sums
 pub mod Apart
-pub mod Longest
 pub mod More

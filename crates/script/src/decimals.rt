@@ -37,6 +37,10 @@ pub(super) fn bytes<const N: usize>(text: &str) -> Option<[u8; N]>
     requires few { N ≤ 8 }
     ensures { Reads (SoManyBytes N) spaced text.now result }
 {
+    // no byte has more than three digits, and a space parts two
+    if text.len() > 4 * N {
+        return None;
+    }
     let mut values = ArrayVec::<u8, N>::new();
     for field in text.split(' ') {
         values.try_push(number(field, 255)? as u8).ok()?;

@@ -6,7 +6,6 @@ ghost use Rattle.script.specs.declared.outcome.Kind.TheVariants.{Frame as OfFram
 
 use super::decimals::{bytes, number, short};
 use super::hexadecimal::{MOST, Octets, read_octets};
-use super::line::LONGEST;
 use super::outcome::Kind;
 use head::{Mark, Sample};
 use std::str::from_utf8;
@@ -90,9 +89,6 @@ pub fn event_line(line: &[u8]) -> Option<EventLine>
     ensures reads { Reads InRange text_of line.now result }
     ensures only { Only line.now result }
 {
-    if line.len() > LONGEST {
-        return None;
-    }
     let (letter, fields) = from_utf8(line).ok()?.split_once(' ')?;
     match letter {
         "F" => frame(fields),

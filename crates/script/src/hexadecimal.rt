@@ -1,5 +1,5 @@
 //! Octets in capital hexadecimal, two digits to each, without gaps.
-ghost use Rattle.std.specs.Prelude.{◌≡◌, ◌<◌, ◌≤◌, ◌+◌, [], ◌∷◌, slice_set};
+ghost use Rattle.std.specs.Prelude.{◌≡◌, ◌<◌, ◌≤◌, [], ◌∷◌};
 ghost use Rattle.script.specs.Hex.{hex_digit, octet_text, hex, octets_in, Filling};
 ghost use Rattle.script.specs.Reading.{Reads};
 
@@ -16,15 +16,6 @@ pub struct Octets {
 }
 
 impl Octets {
-    // One octet more.
-    fn push(&mut self, octet: u8)
-        requires { self.old.count < 64 }
-        ensures { self.new ≡ record { bytes = slice_set self.old.bytes self.old.count octet; count = self.old.count + 1 } }
-    {
-        self.bytes[self.count] = octet;
-        self.count += 1;
-    }
-
     /// The octets, to look at.
     pub fn as_slice(&self) -> &[u8]
         ensures { result.now ≡ octets_in self.now }
@@ -62,12 +53,13 @@ pub(super) fn read_octets(text: &[u8]) -> Option<Octets>
     if pairs.is_empty() || pairs.len() > MOST {
         return None;
     }
-    let mut octets = Octets {
-        bytes: [0; MOST],
-        count: 0,
-    };
-    for [high, low] in pairs {
-        octets.push(octet(*high, *low)?);
+    let mut bytes = [0; MOST];
+    // Places are counted: octets that are pushed one by one take longer (docs/DESIGN-PASS.md).
+    for (place, [high, low]) in pairs.iter().enumerate() {
+        bytes[place] = octet(*high, *low)?;
     }
-    Some(octets)
+    Some(Octets {
+        bytes,
+        count: pairs.len(),
+    })
 }

@@ -6,7 +6,7 @@ ghost use Rattle.script.specs.Lines.{onto, Took};
 use std::marker::Model;
 
 /// The longest legal line: `F`, a space and 64 octets.
-pub(super) const LONGEST: usize = 130;
+const LONGEST: usize = 130;
 
 // An array and a count, and no `ArrayVec`: a value of that type cannot be copied.
 

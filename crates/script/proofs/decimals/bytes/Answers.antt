@@ -4,8 +4,11 @@ use Rattle.std.proofs.lemmas.Iterator.Splits.{YieldsList-from_str_split}
 use Rattle.std.proofs.lemmas.List.{length-map}
 use Rattle.std.proofs.lemmas.Result.{MatchResult-at_err}
 use Rattle.script.proofs.Numerals.{err_of}
-use Rattle.script.proofs.Fields.{as_many, each, filled}
+use Rattle.script.proofs.Fields.{spaced_long, as_many, each, filled}
 use Rattle.script.proofs.decimals.bytes.Goals as goal
+
+pub returns-then-text : goal.returns-then-text
+returns-then-text g c ns h e = omega (arith, spaced_long ns h.1, h.0, ap length e, c.if-text.true)
 
 pub returns-in_err-number : goal.returns-in_err-number
 returns-in_err-number g c =

@@ -1,16 +1,12 @@
-use Rattle.std.proofs.Common.{IsUtf8, length, sym, ap, ◌∙◌, subst, arith}
+use Rattle.std.proofs.Common.{IsUtf8, sym, ◌∙◌, subst}
 use Rattle.std.proofs.lemmas.Str.{IsUtf8-from_ascii}
 use Rattle.std.proofs.lemmas.Result.{MatchResult-at_err}
 use Rattle.script.specs.Events.{text_of}
 use Rattle.script.specs.declared.outcome.Kind.TheVariants.{Frame as OfFrame, Ticks as OfTicks, Sample as OfSample, Second as OfSecond}
 use Rattle.script.proofs.Apart.{read_parts}
 use Rattle.script.proofs.Brought.{text_ascii}
-use Rattle.script.proofs.Longest.{text_long}
 use Rattle.script.proofs.Numerals.{err_of}
 use Rattle.script.proofs.event.event_line.Goals as goal
-
-pub returns-then-line-gt-LONGEST-clause-reads : goal.returns-then-line-gt-LONGEST-clause-reads
-returns-then-line-gt-LONGEST-clause-reads c x h e = omega (arith, text_long x h, ap length e, c.if-line-gt-LONGEST.true)
 
 pub returns-in_err-ok-clause-reads : goal.returns-in_err-ok-clause-reads
 returns-in_err-ok-clause-reads c = rw c.from_residual.ensures (λ x h e.

@@ -1,6 +1,11 @@
-use Rattle.std.proofs.Common.{◌≡◌, map, take}
-use Rattle.script.specs.Hex.{octet_text, octets_in, Sound}
+use Rattle.std.proofs.Common.{◌≡◌, ◌-◌, length, map, take, drop, replicate}
+use Rattle.script.specs.Hex.{octet_text}
+use Rattle.script.specs.Numbers.{Bytes}
 use Rattle.script.proofs.hexadecimal.read_octets.Given as goal
 
-abbrev pub invariant-loop-high : goal.invariant-loop-high
-invariant-loop-high l = (l.octets.count ≡ l.high-index) × Sound l.octets × (map octet_text (octets_in l.octets) ≡ take l.octets.count l.pairs)
+abbrev pub invariant-loop-place : goal.invariant-loop-place
+invariant-loop-place l =
+    (length l.bytes ≡ 64)
+    × Bytes l.bytes
+    × (drop l.place l.bytes ≡ replicate (64 - l.place) 0)
+    × (map octet_text (take l.place l.bytes) ≡ take l.place l.pairs)
